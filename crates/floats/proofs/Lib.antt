@@ -1,0 +1,4 @@
+-- The laws that callers cite.
+pub mod Nan
+pub mod Power
+pub mod Constants

@@ -1,0 +1,38 @@
+-- Not-a-numbers: which values and which patterns are, and the one that code makes. Assumes nothing.
+use Prim.Native.Nat.{ℕ, _%_, _<_, _≤_}
+use mathlib.Core.Path.{_≡_, refl, sym, _∙_, subst}
+use mathlib.Core.Bool.{true, false, not}
+use lib.Dec.{T}
+use lib.Ieee.{Float, nan, inf, fin, binary32, div, ne, isNan, nanBits, ofBits, toBits}
+use lib.Ieee.Bits.{nanBits-is, nanBits-above}
+use borrow.Author.Tests.{lt-ltb, le-ltb}
+
+pub is-nan : (x : Float) → isNan x ≡ true → x ≡ nan
+unfolding isNan
+is-nan nan e = refl
+is-nan (inf s) e = absurd (subst T (sym e) tt)
+is-nan (fin s m e') e = absurd (subst T (sym e) tt)
+
+-- a value that equals itself is a number
+pub same-no-nan : (x : Float) → ne x x ≡ false → T (not (isNan x))
+unfolding ne isNan
+same-no-nan nan e = subst T e tt
+same-no-nan (inf s) e = tt
+same-no-nan (fin s m e') e = tt
+
+pub zero-by-zero : div binary32 (ofBits binary32 0) (ofBits binary32 0) ≡ nan
+unfolding div ofBits
+zero-by-zero = refl
+
+-- the pattern of every not-a-number that is written or returned
+pub nan-bits : toBits binary32 nan ≡ 0x7FC00000
+unfolding toBits
+nan-bits = refl
+
+-- a pattern above the infinity's, the sign taken off, is a not-a-number's
+pub nan-above : (b : ℕ) → 0x7F800000 < b % 0x80000000 → ofBits binary32 b ≡ nan
+nan-above b h = is-nan _ (sym (nanBits-is binary32 b) ∙ nanBits-above binary32 b ∙ lt-ltb _ _ h)
+
+-- and any other is a number's
+pub number-below : (b : ℕ) → b % 0x80000000 ≤ 0x7F800000 → T (not (nanBits binary32 b))
+number-below b h = subst (λ t. T (not t)) (sym (nanBits-above binary32 b ∙ le-ltb _ _ h)) tt

@@ -1,0 +1,27 @@
+-- The four operators at binary32, each rounded once, and powers of two. Assumes nothing.
+use Prim.Native.Nat.{ℕ}
+use mathlib.Core.Bool.{false}
+use lib.Dec.{ltb}
+use lib.IntN.{pos}
+use lib.Ieee.{Float, inf, fin, binary32, add, sub, mul, div}
+use Rattle.lists.specs.Pick.{pick}
+
+infixl 60 _⊕_
+infixl 60 _⊖_
+infixl 70 _⊗_
+infixl 70 _⊘_
+abbrev pub _⊕_ : Float → Float → Float
+x ⊕ y = add binary32 x y
+
+abbrev pub _⊖_ : Float → Float → Float
+x ⊖ y = sub binary32 x y
+
+abbrev pub _⊗_ : Float → Float → Float
+x ⊗ y = mul binary32 x y
+
+abbrev pub _⊘_ : Float → Float → Float
+x ⊘ y = div binary32 x y
+
+-- 2 ^ e, which is 1 times 2 ^ e; infinity from 2 ^ 128 on
+unfoldable pub powerOfTwo : ℕ → Float
+powerOfTwo e = pick (ltb e 128) (fin false 1 (pos e)) (inf false)

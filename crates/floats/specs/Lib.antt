@@ -1,0 +1,3 @@
+-- binary32 as the formulas use it.
+pub mod Floats
+pub mod Constants

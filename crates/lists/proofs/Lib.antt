@@ -1,0 +1,5 @@
+-- The laws that callers cite.
+pub mod Written
+pub mod First
+pub mod Count
+pub mod Every

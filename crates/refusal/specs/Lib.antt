@@ -1,0 +1,2 @@
+-- The numbered refusals.
+pub mod Refusal
