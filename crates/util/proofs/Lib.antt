@@ -1,0 +1,4 @@
+-- The laws that callers cite.
+pub mod Width
+pub mod Shift
+pub mod Words

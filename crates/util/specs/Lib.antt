@@ -1,0 +1,3 @@
+-- Words and their fields, as document 01 reads them.
+pub mod Words
+pub mod Fields

@@ -1,0 +1,68 @@
+// Words and their fields: big-endian words, signed fields over the width, combined words, words in two parts.
+ghost use mathlib.Core.Path.{_≡_};
+ghost use Prim.Native.Nat.{_+_, _*_, _<_, _≤_};
+ghost use lib.ListN.{length};
+ghost use Rattle.util.specs.Words.{bigEndian, wordAt};
+ghost use Rattle.util.specs.Fields.{signed, combined, splitAt, offsetAverage};
+
+// A word in two parts.
+pub struct Parts {
+    pub upper: u16,
+    pub lower: u16,
+}
+
+// The word of two bytes, the high one first.
+pub fn big_endian(high: u8, low: u8) -> u16
+    ensures { λ r. ⌜ r ≡ bigEndian high low ⌝ }
+{
+    high as u16 * 256 + low as u16
+}
+
+// Word number `index` of the bytes, which reach that far.
+pub fn word_at(bytes: &[u8], index: usize) -> u16
+    requires { ⌜ index * 2 + 1 < length (now bytes) ⌝ }
+    ensures { λ r. ⌜ r ≡ wordAt (now (bytes .entry)) index ⌝ }
+{
+    let high = index * 2;
+    let low = high + 1;
+    big_endian(bytes[high], bytes[low])
+}
+
+// The number that the low `num_bits` bits of a word stand for in two's complement.
+pub fn i16_from_bits(word: u32, num_bits: u32) -> i16
+    requires { ⌜ (1 ≤ «num_bits») × («num_bits» ≤ 16) ⌝ }
+    ensures { λ r. ⌜ r ≡ signed «num_bits» word ⌝ }
+{
+    let full = 1u32 << num_bits;
+    let low = word % full;
+    if low < full / 2 {
+        low as i16
+    } else {
+        -1 - (full - 1 - low) as i16
+    }
+}
+
+// Two words as one: the upper times 32, OR the lower. A lower word above 31 overlaps and does not carry.
+pub fn combine(upper: u16, lower: u16) -> u32
+    ensures { λ r. ⌜ r ≡ combined upper lower ⌝ }
+{
+    upper as u32 * 32 | lower as u32
+}
+
+// A word's low bits, and what stands above them.
+pub fn split(word: u16, low_bits: u32) -> Parts
+    requires { ⌜ «low_bits» < 16 ⌝ }
+    ensures { λ r. ⌜ r ≡ splitAt «low_bits» word ⌝ }
+{
+    Parts {
+        upper: word >> low_bits,
+        lower: word % (1 << low_bits),
+    }
+}
+
+// The average of all pixel offsets.
+pub fn offset_average(upper: u16, lower: u16) -> i16
+    ensures { λ r. ⌜ r ≡ offsetAverage upper lower ⌝ }
+{
+    i16_from_bits(combine(upper, lower), 11)
+}
