@@ -1,6 +1,6 @@
 -- The first index with a property: the definition gives it, there is only one, and the step of a loop that looks for it. Assumes nothing.
 use Prim.Native.Nat.{ℕ, zero, suc, _+_, _-_, _≤_, _<_}
-use mathlib.Core.Path.{_≡_, refl, sym, ap, _∙_}
+use mathlib.Core.Path.{_≡_, refl, sym, ap₂, _∙_}
 use mathlib.Core.Bool.{Bool, true, false, true≢false}
 use native.Mathlib.Nat.{add-zero, add-suc, suc-add, le-antisymm, le-of-suc-le-suc, lt-of-not-le}
 use native.Mathlib.Omega.{arith}
@@ -42,3 +42,11 @@ module _ (p : ℕ → Bool) where
   pub first-is : (w n r : ℕ) → First p w n r → r ≡ firstFrom p w n
   first-is w n r f =
       le-antisymm (not-before w n r (firstFrom p w n) f (is-first w n)) (not-before w n (firstFrom p w n) r (is-first w n) f)
+
+-- tests that agree have the same first index
+pub first-same : (p q : ℕ → Bool) (w n : ℕ) → ((k : ℕ) → k < w + n → p k ≡ q k) → firstFrom p w n ≡ firstFrom q w n
+unfolding firstFrom
+first-same p q w zero e = refl
+first-same p q w (suc n) e =
+    ap₂ (λ (b : Bool) (r : ℕ). pick b w r) (e w (omega (arith, add-suc w n)))
+    (first-same p q (suc w) n (λ k h. e k (omega (arith, add-suc w n, suc-add w n))))
