@@ -1,7 +1,7 @@
 -- Of the 65,536 words 34,816 are accepted and 30,720 are not. The count goes over the words' syndromes, a bit of the word at a time.
 -- Assumes nothing.
 use mathlib.Core.Path.{_≡_, refl, sym, ap, ap₂, _∙_, subst}
-use mathlib.Core.Bool.{Bool, not}
+use mathlib.Core.Bool.{Bool, not, _||_}
 use mathlib.Core.List.{List, [], _∷_}
 use Prim.Native.Nat.{ℕ, zero, suc, _+_, _*_, _^_, _<_, _≤_}
 use native.Mathlib.Nat.{le-of-suc-le, pow-suc, one-mul, zero-add, le-of-suc-le-suc, not-suc-le-zero}
@@ -17,7 +17,7 @@ use Rattle.hamming.specs.Word.{parity, accepted}
 use Rattle.hamming.specs.Syndrome.{syndromeOf}
 use Rattle.hamming.proofs.Xor.{xor-assoc}
 use Rattle.hamming.proofs.Codes.{syn-xor, syn-lt}
-use Rattle.hamming.proofs.Laws.{or, col, syn-bit, accepted-by}
+use Rattle.hamming.proofs.Laws.{col, syn-bit, accepted-by}
 
 syn-zero : syndromeOf 0 ≡ 0
 unfolding syndromeOf parity onesIn
@@ -76,7 +76,7 @@ rows-are g (suc k) s hk h =
     (rows-are g k (bitXor s (col k)) (le-of-suc-le hk) (xor-lt 5 s (col k) h (subst (λ (n : ℕ). n < 32) (syn-bit k hk) (syn-lt (2 ^ k)))))
 
 good : ℕ → Bool
-good s = or (eqb s 0) (leb 16 s)
+good s = eqb s 0 || leb 16 s
 
 number : getD (rows good (cols 16)) 0 0 ≡ 34816
 unfolding rows row good cols

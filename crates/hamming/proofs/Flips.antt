@@ -1,27 +1,30 @@
--- A codeword with none, one, two or three of its bits flipped. Flips add up in the syndrome, so each claim is one test over the bits alone.
+-- A codeword with none, one, two or three of its bits flipped. Flips add up in the syndrome, so a claim is a test over the bits alone.
 -- Assumes nothing.
-use mathlib.Core.Path.{_≡_, refl, sym, ap, ap₂, _∙_, subst}
-use mathlib.Core.Bool.{Bool, true, false, not}
-use Prim.Native.Nat.{ℕ, _+_, _*_, _/_, _%_, _^_, _<_}
+use mathlib.Core.Path.{_≡_, refl, sym, ap, _∙_}
+use mathlib.Core.Bool.{Bool, true, false, not, _||_, or-true, true≢false}
+use mathlib.Core.Logic.{_⊎_, inl, inr}
+use Prim.Native.Nat.{ℕ, _+_, _/_, _%_, _^_, _<_}
+use native.Mathlib.Nat.{mod-lt, zero-lt-suc}
 use native.Mathlib.Omega.{arith}
-use lib.Bits.{bitXor, xor-mod, xor-comm, xor-self}
-use lib.Dec.{T, eqb, ltb, eqb→eq, ltb→lt, T-not}
-use lib.Pow.{high, low}
-use borrow.Author.Tests.{lt-ltb, eq-eqb}
+use lib.Bits.{bitXor, xor-mod, xor-shr, xor-zero-r}
+use lib.Count.{onesIn}
+use lib.Dec.{T, eqb, leb, eqb→eq}
+use borrow.Author.Tests.{lt-ltb, eq-eqb, ne-eqb, eqb-true, eqb-false}
 use Rattle.lists.specs.Pick.{pick}
 use Rattle.lists.specs.First.{firstFrom}
 use Rattle.lists.proofs.Every.{both, both-left, both-right, at, at2}
-use Rattle.hamming.specs.Word.{encoded, dataOf, flip, place, Said, says, damaged, mended, decoded}
+use Rattle.hamming.specs.Word.{parity, encoded, codeword, dataOf, flip, place, Said, says, damaged, mended, decoded, isSaid, accepted, oddOnes}
 use Rattle.hamming.specs.Syndrome.{syndromeOf}
-use Rattle.hamming.proofs.Xor.{xor-twice, xor-assoc}
+use Rattle.hamming.proofs.Xor.{bit, xor-twice}
+use Rattle.hamming.proofs.Linear.{parity-xor, parity-lt}
 use Rattle.hamming.proofs.Codes.{syn-encoded, data-of-encoded, encoded-lt}
-use Rattle.hamming.proofs.Laws.{or, col, syn-flip, flip-lt, placeBy, place-by, decodedBy, decoded-by}
+use Rattle.hamming.proofs.Laws.{col, syn-flip, flip-lt, placeBy, place-by, decodedBy, decoded-by, AtMostOne, says-is, odd-by, accepted-is}
 
 not-t : (b : Bool) → T (not b) → b ≡ false
 not-t true t = absurd t
 not-t false t = refl
 
-pub or-use : (a b : Bool) → T (or a b) → (T a → ⊥) → T b
+pub or-use : (a b : Bool) → T (a || b) → (T a → ⊥) → T b
 or-use true b t n = absurd (n tt)
 or-use false b t n = t
 
@@ -80,7 +83,7 @@ abbrev twoBits : ℕ → ℕ → ℕ
 twoBits j k = bitXor (col j) (col k)
 
 two-right : ℕ → ℕ → Bool
-two-right j k = or (eqb j k) (both (not (eqb (twoBits j k) 0)) (eqb (placeBy (twoBits j k)) 16))
+two-right j k = eqb j k || both (not (eqb (twoBits j k) 0)) (eqb (placeBy (twoBits j k)) 16)
 
 two-test : (j k : ℕ) → j < 16 → k < 16 → (j ≡ k → ⊥) → T (both (not (eqb (twoBits j k) 0)) (eqb (placeBy (twoBits j k)) 16))
 unfolding two-right placeBy firstFrom
@@ -98,71 +101,95 @@ two-flips d j k h hj hk ne =
     away w s (flip-lt k (flip j (encoded d)) hk (one-lt d j h hj)) (two-syn d j k h hj hk) (both-left (not (eqb s 0)) (eqb (placeBy s) 16) (two-test j k hj hk ne))
     ∙ ap (mended w) (eqb→eq (placeBy s) 16 (both-right (not (eqb s 0)) (eqb (placeBy s) 16) (two-test j k hj hk ne)))
 
--- ---- three
+-- ---- three: an odd number of ones, so the word is accepted; and two of its bits differ from the codeword's, so it is not one flip from it
 
-abbrev threeBits : ℕ → ℕ → ℕ → ℕ
-threeBits i j k = bitXor (twoBits i j) (col k)
+abbrev digit : ℕ → ℕ → ℕ
+digit n w = w / 2 ^ n % 2
 
--- the bits by which the word as mended differs from the codeword
-abbrev changed : ℕ → ℕ → ℕ → ℕ
-changed i j k = bitXor (2 ^ i) (bitXor (2 ^ j) (bitXor (2 ^ k) (2 ^ placeBy (threeBits i j k))))
+digit-right : ℕ → ℕ → Bool
+digit-right n k = eqb (digit n (2 ^ k)) (pick (eqb n k) 1 0)
 
-abbrev wrong : ℕ → ℕ → ℕ → Bool
-wrong i j k =
-    both (not (eqb (threeBits i j k) 0)) (both (ltb (placeBy (threeBits i j k)) 16) (not (eqb (changed i j k % 2048) 0)))
+digit-test : (n k : ℕ) → n < 16 → k < 16 → digit n (2 ^ k) ≡ pick (eqb n k) 1 0
+unfolding digit-right
+digit-test n k hn hk = eqb→eq (digit n (2 ^ k)) (pick (eqb n k) 1 0) (at2 digit-right 4 4 tt n k hn hk)
 
-three-right : ℕ → ℕ → ℕ → Bool
-three-right i j k = or (eqb i j) (or (eqb i k) (or (eqb j k) (wrong i j k)))
+digit-flip : (n k w : ℕ) → n < 16 → k < 16 → digit n (flip k w) ≡ bitXor (digit n w) (pick (eqb n k) 1 0)
+digit-flip n k w hn hk =
+    ap (λ (x : ℕ). x % 2) (xor-shr w (2 ^ k) n) ∙ xor-mod (w / 2 ^ n) (2 ^ k / 2 ^ n) 1 ∙ ap (bitXor (digit n w)) (digit-test n k hn hk)
 
-three-at : (i j k : ℕ) → i < 16 → j < 16 → k < 16 → T (three-right i j k)
-unfolding three-right placeBy firstFrom
-three-at i j k hi hj hk =
-    subst (λ (x : ℕ). T (three-right i j x)) (low j 4 hk)
-    (subst (λ (x : ℕ). T (three-right i x ((j * 16 + k) % 16))) (high j 4 hk)
-    (at2 (λ (a b : ℕ). three-right a (b / 16) (b % 16)) 4 8 tt i (j * 16 + k) hi (omega arith)))
+-- a flip keeps every other bit
+keeps : (n k w : ℕ) → n < 16 → k < 16 → (n ≡ k → ⊥) → digit n (flip k w) ≡ digit n w
+keeps n k w hn hk ne =
+    digit-flip n k w hn hk ∙ ap (λ (b : Bool). bitXor (digit n w) (pick b 1 0)) (ne-eqb n k ne) ∙ xor-zero-r (digit n w)
 
-three-test : (i j k : ℕ) → i < 16 → j < 16 → k < 16 → (i ≡ j → ⊥) → (i ≡ k → ⊥) → (j ≡ k → ⊥) → T (wrong i j k)
-unfolding three-right
-three-test i j k hi hj hk ij ik jk =
-    or-use (eqb j k) (wrong i j k)
-    (or-use (eqb i k) (or (eqb j k) (wrong i j k))
-    (or-use (eqb i j) (or (eqb i k) (or (eqb j k) (wrong i j k))) (three-at i j k hi hj hk) (λ t. ij (eqb→eq i j t)))
-    (λ t. ik (eqb→eq i k t)))
-    (λ t. jk (eqb→eq j k t))
+-- and turns its own
+turns : (n w : ℕ) → n < 16 → digit n (flip n w) ≡ digit n w → ⊥
+turns n w hn e =
+    bit (λ (x : ℕ). bitXor x 1 ≡ x → ⊥) (λ q. let z : _≡_ {A = ℕ} 1 0 = q in omega arith) (λ q. let z : _≡_ {A = ℕ} 0 1 = q in omega arith)
+    (digit n w) (mod-lt (w / 2 ^ n) (zero-lt-suc 1))
+    (ap (λ (b : Bool). bitXor (digit n w) (pick b 1 0)) (sym (eq-eqb n n refl)) ∙ sym (digit-flip n n w hn hn) ∙ e)
 
-gather : (e a b c f : ℕ) → bitXor (bitXor (bitXor (bitXor e a) b) c) f ≡ bitXor e (bitXor a (bitXor b (bitXor c f)))
-gather e a b c f =
-    xor-assoc (bitXor (bitXor e a) b) c f ∙ xor-assoc (bitXor e a) b (bitXor c f) ∙ xor-assoc e a (bitXor b (bitXor c f))
+-- a word that differs from another at bit n and is one flip from it has bit n flipped
+must-be : (n p w e : ℕ) → n < 16 → p < 16 → (digit n w ≡ digit n e → ⊥) → w ≡ flip p e → p ≡ n
+must-be n p w e hn hp d q = go (eqb n p) refl
+  where
+    go : (b : Bool) → eqb n p ≡ b → p ≡ n
+    go true t = sym (eqb-true n p t)
+    go false t = absurd (d (ap (digit n) q ∙ keeps n p e hn hp (eqb-false n p t)))
 
--- what changes nothing is nothing
-unchanged : (d x : ℕ) → bitXor d x ≡ d → x ≡ 0
-unchanged d x e = sym (xor-twice x d) ∙ ap (λ (n : ℕ). bitXor n d) (xor-comm x d ∙ e) ∙ xor-self d
+odd-right : ℕ → Bool
+odd-right k = eqb (oddOnes (2 ^ k)) 1
 
--- the data of a word that decodes, but not to d
+odd-flip : (k w : ℕ) → k < 16 → oddOnes (flip k w) ≡ (oddOnes w + 1) % 2
+unfolding odd-right parity onesIn
+odd-flip k w h = parity-xor 0xFFFF w (2 ^ k) ∙ ap (λ (x : ℕ). (oddOnes w + x) % 2) (eqb→eq (oddOnes (2 ^ k)) 1 (at odd-right 4 tt k h))
+
+even-code : (d : ℕ) → d < 2048 → oddOnes (encoded d) ≡ 0
+even-code d h =
+    bit (λ (x : ℕ). eqb x 1 ≡ false → x ≡ 0) (λ e. refl) (λ e. absurd (true≢false e)) (oddOnes (encoded d)) (parity-lt 0xFFFF (encoded d))
+    (sym (odd-by (encoded d)) ∙ ap (leb 16) (syn-encoded d h))
+
+said-of : (s : Said) → isSaid s ≡ true → (d : ℕ) × (s ≡ says d)
+said-of (says d) e = (d, refl)
+said-of damaged e = absurd (true≢false (sym e))
+
+-- w decodes, but not to d
 pub record Wrongly (w d : ℕ) : Type 0 where
   pub other : ℕ
   pub decodes : decoded w ≡ says other
   pub differs : other ≡ d → ⊥
 
--- any three flips decode, and never to the data
-pub three-flips : (d i j k : ℕ) → d < 2048 → i < 16 → j < 16 → k < 16 → (i ≡ j → ⊥) → (i ≡ k → ⊥) → (j ≡ k → ⊥)
-    → Wrongly (flip k (flip j (flip i (encoded d)))) d
-three-flips d i j k h hi hj hk ij ik jk =
-    let s = threeBits i j k in
-    let p = placeBy s in
-    let w = flip k (flip j (flip i (encoded d))) in
-    let inside : Bool = both (ltb p 16) (not (eqb (changed i j k % 2048) 0)) in
-    let test = three-test i j k hi hj hk ij ik jk in
-    let rest : T inside = both-right (not (eqb s 0)) inside test in
-    let hp : p < 16 = ltb→lt p 16 (both-left (ltb p 16) (not (eqb (changed i j k % 2048) 0)) rest) in
-    let es : syndromeOf w ≡ s = syn-flip k (flip j (flip i (encoded d))) hk ∙ ap (λ (n : ℕ). bitXor n (col k)) (two-syn d i j h hi hj) in
-    let lw : w < 65536 = flip-lt k (flip j (flip i (encoded d))) hk (flip-lt j (flip i (encoded d)) hj (one-lt d i h hi)) in
-    let data-is : dataOf (flip p w) ≡ bitXor d (changed i j k % 2048) =
-    ap dataOf (gather (encoded d) (2 ^ i) (2 ^ j) (2 ^ k) (2 ^ p)) ∙ xor-mod (encoded d) (changed i j k) 11
-    ∙ ap (λ (n : ℕ). bitXor n (changed i j k % 2048)) (data-of-encoded d h) in
-    record {
-      other = dataOf (flip p w);
-      decodes = away w s lw es (both-left (not (eqb s 0)) inside test) ∙ mended-at w p hp;
-      differs = λ e. T-not (eqb (changed i j k % 2048) 0) (both-right (ltb p 16) (not (eqb (changed i j k % 2048) 0)) rest)
-          (subst T (sym (eq-eqb (changed i j k % 2048) 0 (unchanged d (changed i j k % 2048) (sym data-is ∙ e)))) tt);
-    }
+module _ (d i j k : ℕ) (h : d < 2048) (hi : i < 16) (hj : j < 16) (hk : k < 16) (ij : i ≡ j → ⊥) (ik : i ≡ k → ⊥) (jk : j ≡ k → ⊥) where
+  abbrev thrice : ℕ
+  thrice = flip k (flip j (flip i (encoded d)))
+
+  thrice-lt : thrice < 65536
+  thrice-lt = flip-lt k (flip j (flip i (encoded d))) hk (flip-lt j (flip i (encoded d)) hj (one-lt d i h hi))
+
+  thrice-odd : oddOnes thrice ≡ 1
+  thrice-odd =
+      odd-flip k (flip j (flip i (encoded d))) hk
+      ∙ ap (λ (x : ℕ). (x + 1) % 2) (odd-flip j (flip i (encoded d)) hj ∙ ap (λ (x : ℕ). (x + 1) % 2) (odd-flip i (encoded d) hi ∙ ap (λ (x : ℕ). (x + 1) % 2) (even-code d h)))
+
+  is-accepted : isSaid (decoded thrice) ≡ true
+  unfolding accepted
+  is-accepted = accepted-is thrice thrice-lt ∙ ap (λ (x : ℕ). codeword thrice || eqb x 1) thrice-odd ∙ or-true (codeword thrice)
+
+  at-i : digit i thrice ≡ digit i (encoded d) → ⊥
+  at-i e = turns i (encoded d) hi (sym (keeps i k (flip j (flip i (encoded d))) hi hk ik ∙ keeps i j (flip i (encoded d)) hi hj ij) ∙ e)
+
+  at-j : digit j thrice ≡ digit j (encoded d) → ⊥
+  at-j e =
+      turns j (flip i (encoded d)) hj
+      (sym (keeps j k (flip j (flip i (encoded d))) hj hk jk) ∙ e ∙ sym (keeps j i (encoded d) hj hi (λ q. ij (sym q))))
+
+  not-one : AtMostOne thrice d → ⊥
+  not-one (inl e) = at-i (ap (digit i) e)
+  not-one (inr z) =
+      ij (sym (must-be i (z .0) thrice (encoded d) hi (z .1) at-i (z .2)) ∙ must-be j (z .0) thrice (encoded d) hj (z .1) at-j (z .2))
+
+  -- any three flips decode, and never to the data
+  pub three-flips : Wrongly thrice d
+  three-flips =
+      let s = said-of (decoded thrice) is-accepted in
+      record { other = s .0; decodes = s .1; differs = λ e. not-one (says-is thrice d (s .1 ∙ ap says e)) }

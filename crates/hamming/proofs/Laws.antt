@@ -1,6 +1,6 @@
 -- What a word's syndrome tells of it, what a word that is accepted says, and which words are accepted. Assumes nothing.
 use mathlib.Core.Path.{_≡_, refl, sym, ap, ap₂, _∙_}
-use mathlib.Core.Bool.{Bool, true, false, not}
+use mathlib.Core.Bool.{Bool, true, false, not, _||_}
 use mathlib.Core.Logic.{_⊎_, inl, inr}
 use mathlib.Core.List.{List, [], _∷_}
 use Prim.Native.Nat.{ℕ, _+_, _*_, _^_, _<_}
@@ -99,10 +99,6 @@ says-is w d e = go (codeword w) refl e
 
 -- ---- which words are accepted
 
-abbrev pub or : Bool → Bool → Bool
-or true b = true
-or false b = b
-
 same : Bool → Bool → Bool
 same true b = b
 same false b = not b
@@ -115,13 +111,13 @@ same-eq false true t = absurd t
 same-eq false false t = refl
 
 acc-right : ℕ → Bool
-acc-right s = same (or (eqb s 0) (ltb (placeBy s) 16)) (or (eqb s 0) (leb 16 s))
+acc-right s = same (eqb s 0 || ltb (placeBy s) 16) (eqb s 0 || leb 16 s)
 
-acc-test : (s : ℕ) → s < 32 → or (eqb s 0) (ltb (placeBy s) 16) ≡ or (eqb s 0) (leb 16 s)
+acc-test : (s : ℕ) → s < 32 → (eqb s 0 || ltb (placeBy s) 16) ≡ (eqb s 0 || leb 16 s)
 unfolding acc-right same placeBy firstFrom
-acc-test s h = same-eq (or (eqb s 0) (ltb (placeBy s) 16)) (or (eqb s 0) (leb 16 s)) (at acc-right 5 tt s h)
+acc-test s h = same-eq (eqb s 0 || ltb (placeBy s) 16) (eqb s 0 || leb 16 s) (at acc-right 5 tt s h)
 
-said : (b : Bool) (k w d : ℕ) → isSaid (pick b (says d) (mended w k)) ≡ or b (ltb k 16)
+said : (b : Bool) (k w d : ℕ) → isSaid (pick b (says d) (mended w k)) ≡ (b || ltb k 16)
 said true k w d = refl
 said false k w d = placed (ltb k 16)
   where
@@ -129,12 +125,12 @@ said false k w d = placed (ltb k 16)
     placed true = refl
     placed false = refl
 
-pub accepted-by : (w : ℕ) → w < 65536 → accepted w ≡ or (eqb (syndromeOf w) 0) (leb 16 (syndromeOf w))
+pub accepted-by : (w : ℕ) → w < 65536 → accepted w ≡ (eqb (syndromeOf w) 0 || leb 16 (syndromeOf w))
 unfolding accepted
 accepted-by w h =
     ap isSaid (decoded-by w h) ∙ said (eqb (syndromeOf w) 0) (placeBy (syndromeOf w)) w (dataOf w) ∙ acc-test (syndromeOf w) (syn-lt w)
 
-odd-by : (w : ℕ) → leb 16 (syndromeOf w) ≡ eqb (oddOnes w) 1
+pub odd-by : (w : ℕ) → leb 16 (syndromeOf w) ≡ eqb (oddOnes w) 1
 unfolding syndromeOf
 odd-by w =
     go (parity 0x47F0 w) (parity 0x278E w) (parity 0x166D w) (parity 0x0D5B w)
@@ -146,5 +142,5 @@ odd-by w =
         (lt-leb 16 ((((0 * 2 + a) * 2 + b) * 2 + c) * 2 + d) (omega arith)) (le-leb 16 ((((1 * 2 + a) * 2 + b) * 2 + c) * 2 + d) (omega arith))
 
 -- a word is accepted exactly if it is a codeword or has an odd number of ones
-pub accepted-is : (w : ℕ) → w < 65536 → accepted w ≡ or (codeword w) (eqb (oddOnes w) 1)
-accepted-is w h = accepted-by w h ∙ ap₂ or (sym (codeword-syn w h)) (odd-by w)
+pub accepted-is : (w : ℕ) → w < 65536 → accepted w ≡ (codeword w || eqb (oddOnes w) 1)
+accepted-is w h = accepted-by w h ∙ ap₂ _||_ (sym (codeword-syn w h)) (odd-by w)

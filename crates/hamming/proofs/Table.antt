@@ -1,6 +1,6 @@
 -- Decoding by the syndrome: 0 says the data, below 16 is damage, and from 16 on a table names the flipped bit. Assumes nothing.
 use mathlib.Core.Path.{_≡_, refl, ap, _∙_}
-use mathlib.Core.Bool.{Bool, not}
+use mathlib.Core.Bool.{Bool, not, _||_}
 use mathlib.Core.List.{List, [], _∷_}
 use Prim.Native.Nat.{ℕ, _-_, _^_, _<_, _≤_}
 use native.Mathlib.Nat.{not-le-of-lt}
@@ -13,7 +13,7 @@ use Rattle.lists.proofs.Every.{both, both-left, both-right, at}
 use Rattle.hamming.specs.Word.{dataOf, mended, decoded, says, damaged}
 use Rattle.hamming.specs.Syndrome.{syndromeOf}
 use Rattle.hamming.proofs.Codes.{syn-lt}
-use Rattle.hamming.proofs.Laws.{or, placeBy, decodedBy, decoded-by}
+use Rattle.hamming.proofs.Laws.{placeBy, decodedBy, decoded-by}
 use Rattle.hamming.proofs.Flips.{or-use, away, mended-at}
 
 -- the code's table: the bit that a syndrome from 16 on points at, as a mask
@@ -23,13 +23,13 @@ flips =
     ∷ 0x4000 ∷ 0x0010 ∷ 0x0020 ∷ 0x0040 ∷ 0x0080 ∷ 0x0100 ∷ 0x0200 ∷ 0x0400 ∷ []
 
 low-right : ℕ → Bool
-low-right s = or (eqb s 0) (eqb (placeBy s) 16)
+low-right s = eqb s 0 || eqb (placeBy s) 16
 
 abbrev pointed : ℕ → Bool
 pointed s = both (ltb (placeBy s) 16) (eqb (2 ^ placeBy s) (getD flips (s - 16) 0))
 
 high-right : ℕ → Bool
-high-right s = or (ltb s 16) (pointed s)
+high-right s = ltb s 16 || pointed s
 
 low-test : (s : ℕ) → s < 16 → T (low-right s)
 unfolding low-right placeBy firstFrom

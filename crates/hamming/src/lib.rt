@@ -4,7 +4,6 @@ ghost use Prim.Native.Nat.{_<_};
 ghost use Rattle.hamming.specs.Word.{parity, encoded};
 ghost use Rattle.hamming.specs.Syndrome.{syndromeOf};
 ghost use Rattle.hamming.specs.Answer.{encodeAnswer, checkAnswer};
-
 use refusal::Refusal;
 
 pub enum Encoded {
@@ -19,8 +18,22 @@ pub enum Checked {
 
 // The bit that a syndrome from 16 on points at, as a mask.
 const FLIP: [u16; 16] = [
-    0x8000, 0x0800, 0x1000, 0x0001, 0x2000, 0x0002, 0x0004, 0x0008, 0x4000, 0x0010, 0x0020, 0x0040,
-    0x0080, 0x0100, 0x0200, 0x0400,
+    0x8000,
+    0x0800,
+    0x1000,
+    0x0001,
+    0x2000,
+    0x0002,
+    0x0004,
+    0x0008,
+    0x4000,
+    0x0010,
+    0x0020,
+    0x0040,
+    0x0080,
+    0x0100,
+    0x0200,
+    0x0400,
 ];
 
 // 1 where the word has an odd number of ones under the mask, else 0.
