@@ -3,3 +3,4 @@ pub mod Written
 pub mod First
 pub mod Count
 pub mod Every
+pub mod Fill

@@ -28,6 +28,13 @@ pub fn word_at(bytes: &[u8], index: usize) -> u16
     big_endian(bytes[high], bytes[low])
 }
 
+// A word as a longer number.
+pub fn wide(word: u16) -> u32
+    ensures { λ r. ⌜ r ≡ word ⌝ }
+{
+    word as u32
+}
+
 // The number that the low `num_bits` bits of a word stand for in two's complement.
 pub fn i16_from_bits(word: u32, num_bits: u32) -> i16
     requires { ⌜ (1 ≤ «num_bits») × («num_bits» ≤ 16) ⌝ }

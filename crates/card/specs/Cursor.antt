@@ -1,0 +1,25 @@
+-- What the cursor reads at a word: the field, and the cursor past it. Assumes nothing.
+use Prim.Native.Nat.{ℕ, _+_}
+use mathlib.Core.List.{List}
+use lib.ListN.{getD}
+use Rattle.util.specs.Fields.{signed, combined, splitAt}
+use Rattle.card.specs.declared.Plain.{Plain}
+use Rattle.card.specs.declared.Signed.{Signed}
+use Rattle.card.specs.declared.Combined.{Combined}
+use Rattle.card.specs.declared.Parted.{Parted}
+
+-- the data of a word by its number
+abbrev pub at : List ℕ → ℕ → ℕ
+at words k = getD words k 0
+
+abbrev pub plainAt : List ℕ → ℕ → Plain
+plainAt words k = record { value = at words k; next = record { word = k + 1 } }
+
+abbrev pub signedAt : List ℕ → ℕ → Signed
+signedAt words k = record { value = signed 11 (at words k); next = record { word = k + 1 } }
+
+abbrev pub combinedAt : List ℕ → ℕ → Combined
+combinedAt words k = record { value = combined (at words k) (at words (k + 1)); next = record { word = k + 2 } }
+
+abbrev pub partsAt : List ℕ → ℕ → ℕ → Parted
+partsAt words width k = record { value = splitAt width (at words k); next = record { word = k + 1 } }

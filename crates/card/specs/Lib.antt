@@ -1,0 +1,3 @@
+-- The words of a card, and the cursor over their data.
+pub mod Card
+pub mod Cursor

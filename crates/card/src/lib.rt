@@ -1,0 +1,122 @@
+// The words of a card: their data, the first that is damaged, and a cursor that reads fields off the data.
+ghost use mathlib.Core.Path.{_≡_};
+ghost use Prim.Native.Nat.{_+_, _*_, _<_, _≤_};
+ghost use lib.ListN.{length};
+ghost use Rattle.lists.specs.Written.{filled};
+ghost use Rattle.hamming.specs.Answer.{answerOf};
+ghost use Rattle.util.specs.Words.{wordAt};
+ghost use Rattle.card.specs.Card.{readAt, dataAt, firstDamaged};
+ghost use Rattle.card.specs.Cursor.{plainAt, signedAt, combinedAt, partsAt};
+
+use hamming::Checked;
+use util::Parts;
+
+// What word number `word` of an image says. An unchecked word says 0.
+fn read_word(image: &[u8], word: usize) -> Checked
+    requires { ⌜ word * 2 + 1 < length (now image) ⌝ }
+    ensures { λ r. ⌜ r ≡ answerOf (wordAt (now (image .entry)) word) (readAt (now (image .entry)) word) ⌝ }
+{
+    if map::is_checked(word) {
+        hamming::check(util::word_at(image, word))
+    } else {
+        Checked::Data(0)
+    }
+}
+
+// The first damaged word in reading order, or 832. The data of all words before it are in `words`.
+pub fn decode(image: &[u8], words: &mut [u16; 832]) -> usize
+    requires { ⌜ 1664 ≤ length (now image) ⌝ }
+    ensures { λ r. ⌜ r ≡ firstDamaged (now (image .entry)) ⌝ }
+    ensures { λ r. ⌜ now (words .exit) ≡ filled (dataAt (now (image .entry))) r (now (words .entry)) ⌝ }
+{
+    let mut word: usize = 0;
+    let place = loop {
+        if word == 832 {
+            break 832;
+        }
+        let read = read_word(image, word);
+        let Checked::Data(data) = read else {
+            break word;
+        };
+        words[word] = data;
+        word += 1;
+    };
+    place
+}
+
+// A place among the data of a card's words.
+pub struct Cursor {
+    pub word: usize,
+}
+
+// Each field that is read comes with the cursor past it.
+pub struct Plain {
+    pub value: u16,
+    pub next: Cursor,
+}
+
+pub struct Signed {
+    pub value: i16,
+    pub next: Cursor,
+}
+
+pub struct Combined {
+    pub value: u32,
+    pub next: Cursor,
+}
+
+pub struct Parted {
+    pub value: Parts,
+    pub next: Cursor,
+}
+
+impl Cursor {
+    // A word's data, unsigned.
+    pub fn plain(self, words: &[u16; 832]) -> Plain
+        requires { ⌜ self .word < 832 ⌝ }
+        ensures { λ r. ⌜ r ≡ plainAt (now (words .entry)) (self .word) ⌝ }
+    {
+        let word = self.word;
+        Plain {
+            value: words[word],
+            next: Cursor { word: word + 1 },
+        }
+    }
+
+    // A word's data, 11 bits signed.
+    pub fn signed(self, words: &[u16; 832]) -> Signed
+        requires { ⌜ self .word < 832 ⌝ }
+        ensures { λ r. ⌜ r ≡ signedAt (now (words .entry)) (self .word) ⌝ }
+    {
+        let word = self.word;
+        Signed {
+            value: util::i16_from_bits(util::wide(words[word]), 11),
+            next: Cursor { word: word + 1 },
+        }
+    }
+
+    // Two words, combined.
+    pub fn combined(self, words: &[u16; 832]) -> Combined
+        requires { ⌜ self .word < 831 ⌝ }
+        ensures { λ r. ⌜ r ≡ combinedAt (now (words .entry)) (self .word) ⌝ }
+    {
+        let upper = self.word;
+        let lower = upper + 1;
+        Combined {
+            value: util::combine(words[upper], words[lower]),
+            next: Cursor { word: upper + 2 },
+        }
+    }
+
+    // A word in two parts, the lower of `low_bits` bits.
+    pub fn parts(self, words: &[u16; 832], low_bits: u32) -> Parted
+        requires { ⌜ (self .word < 832) × («low_bits» < 16) ⌝ }
+        ensures { λ r. ⌜ r ≡ partsAt (now (words .entry)) «low_bits» (self .word) ⌝ }
+    {
+        let word = self.word;
+        Parted {
+            value: util::split(words[word], low_bits),
+            next: Cursor { word: word + 1 },
+        }
+    }
+}

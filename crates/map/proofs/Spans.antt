@@ -1,0 +1,106 @@
+-- A word within the k-th span of a rising map has that span's role. Assumes nothing.
+use Prim.Native.Nat.{ℕ, zero, suc, _+_, _≤_, _<_}
+use mathlib.Core.Path.{_≡_, refl, _∙_}
+use mathlib.Core.Bool.{Bool, true, false, _&&_, _||_}
+use mathlib.Core.List.{List, [], _∷_}
+use native.Mathlib.Nat.{le-trans, le-refl, add-zero, add-suc, suc-add}
+use native.Mathlib.Numerals.{add-one}
+use lib.ListN.{length}
+use native.Mathlib.Omega.{arith}
+use lib.Dec.{T, leb, ltb, eqb, leb→le}
+use borrow.Author.Tests.{lt-ltb, le-ltb, eqb-true}
+use Rattle.map.specs.declared.Role.{Role}
+use Rattle.map.specs.declared.Role.the-variants.{Unchecked}
+use Rattle.lists.specs.Pick.{pick}
+use Rattle.map.specs.Map.{Span, upto, lookup, spans, roleOf}
+
+-- where the k-th field starts, ends, and what it is, in a map that starts at lo
+abbrev pub start : ℕ → List Span → ℕ → ℕ
+start lo es zero = lo
+start lo [] (suc k) = lo
+start lo (upto n r ∷ es) (suc k) = start n es k
+
+abbrev pub end : List Span → ℕ → ℕ
+end [] k = 0
+end (upto n r ∷ es) zero = n
+end (upto n r ∷ es) (suc k) = end es k
+
+abbrev pub what : List Span → ℕ → Role
+what [] k = Unchecked
+what (upto n r ∷ es) zero = r
+what (upto n r ∷ es) (suc k) = what es k
+
+both-left : (a b : Bool) → T (a && b) → T a
+both-left true b p = tt
+both-left false b p = p
+
+both-right : (a b : Bool) → T (a && b) → T b
+both-right true b p = p
+both-right false b p = absurd p
+
+abbrev pub rising : ℕ → List Span → Bool
+rising lo [] = true
+rising lo (upto n r ∷ es) = leb lo n && rising n es
+
+low : (lo : ℕ) (es : List Span) (k : ℕ) → T (rising lo es) → lo ≤ start lo es k
+low lo es zero p = le-refl lo
+low lo [] (suc k) p = le-refl lo
+low lo (upto n r ∷ es) (suc k) p = le-trans (leb→le lo n (both-left (leb lo n) _ p)) (low n es k (both-right (leb lo n) _ p))
+
+pub at : (lo : ℕ) (es : List Span) (k w : ℕ) → T (rising lo es) → start lo es k ≤ w → w < end es k → what es k ≡ lookup es w
+at lo [] k w p a b = refl
+at lo (upto n r ∷ es) zero w p a b = rw (lt-ltb w n b)
+at lo (upto n r ∷ es) (suc k) w p a b =
+    let q : T (rising n es) = both-right (leb lo n) _ p in
+    rw (le-ltb w n (le-trans (low n es k q) a)) (at n es k w q a b)
+
+pub past : (lo : ℕ) (es : List Span) (w : ℕ) → T (rising lo es) → start lo es (length es) ≤ w → Unchecked ≡ lookup es w
+past lo [] w p a = refl
+past lo (upto n r ∷ es) w p a =
+    let q : T (rising n es) = both-right (leb lo n) _ p in
+    rw (le-ltb w n (le-trans (low n es (length es) q) a)) (past n es w q a)
+
+pub within : (k : ℕ) {w : ℕ} → start 0 spans k ≤ w → w < end spans k → what spans k ≡ roleOf w
+unfolding spans roleOf
+within k {w} a b = at 0 spans k w tt a b
+
+pub beyond : {w : ℕ} → 832 ≤ w → Unchecked ≡ roleOf w
+unfolding spans roleOf
+beyond {w} a = past 0 spans w tt a
+
+-- what a `match` leaves for its ranges: the word is none of its single numbers, the last of them first in ks
+abbrev pub Rest : List ℕ → ℕ → Type 0
+Rest [] w = Unit
+Rest (k ∷ ks) w = Rest ks w × (w ≡ k → ⊥)
+
+abbrev pub has : List ℕ → ℕ → Bool
+has [] a = false
+has (k ∷ ks) a = eqb a k || has ks a
+
+abbrev pub hasAll : List ℕ → ℕ → ℕ → Bool
+hasAll ks a zero = true
+hasAll ks a (suc n) = has ks a && hasAll ks (suc a) n
+
+either : (k a w : ℕ) (t u : Bool) → eqb a k ≡ t → (w ≡ k → ⊥) → (T u → w ≡ a → ⊥) → T (t || u) → w ≡ a → ⊥
+either k a w true u q n f t e = n (e ∙ eqb-true a k q)
+either k a w false u q n f t e = f t e
+
+free : (ks : List ℕ) (a w : ℕ) → T (has ks a) → Rest ks w → w ≡ a → ⊥
+free [] a w t r e = absurd t
+free (k ∷ ks) a w t r e = either k a w (eqb a k) (has ks a) refl (r .1) (λ u. free ks a w u (r .0)) t e
+
+-- past a run of single numbers
+climb : (ks : List ℕ) (a n w : ℕ) → T (hasAll ks a n) → Rest ks w → a ≤ w → a + n ≤ w
+climb ks a zero w t r h = rw add-zero h
+climb ks a (suc n) w t r h =
+    let f : w ≡ a → ⊥ = free ks a w (both-left (has ks a) _ t) r in
+    let g : suc a ≤ w = omega (arith, add-one a) in
+    let k : suc a + n ≤ w = climb ks (suc a) n w (both-right (has ks a) _ t) r g in
+    omega (arith, add-suc a n, suc-add a n)
+
+abbrev pub keys : List ℕ
+keys = 63 ∷ 62 ∷ 61 ∷ 60 ∷ 59 ∷ 58 ∷ 52 ∷ 51 ∷ 50 ∷ 49 ∷ 46 ∷ 45 ∷ 44 ∷ 43 ∷ 42 ∷ 39 ∷ 38 ∷ 35 ∷ 34 ∷ 24 ∷ 23 ∷ 22 ∷ 21 ∷ 16 ∷ []
+
+-- the k-th field is a range of the `match` whose test gives a as the lower bound, with n single numbers from a up to the field
+pub after : (k a n : ℕ) {w : ℕ} → T (hasAll keys a n) → start 0 spans k ≤ a + n → Rest keys w → a ≤ w → w < end spans k → what spans k ≡ roleOf w
+after k a n {w} t e r h b = within k (le-trans e (climb keys a n w t r h)) b

@@ -1,0 +1,2 @@
+-- The map of a card.
+pub mod Map
