@@ -1,2 +1,3 @@
 -- The laws that callers cite.
 pub mod Said
+pub mod Times

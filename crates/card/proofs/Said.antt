@@ -26,7 +26,6 @@ pub told-refused : (w : ℕ) (s : Said) (f : Refusal) → answerOf w s ≡ Refus
 told-refused w (says e) f h = absurd (let z : _≡_ {A = ℕ} 0 1 = cc in let q : ⊥ = omega arith in q)
 told-refused w damaged f h = refl
 
-
 mended-lt : (w k : ℕ) (b : Bool) → said (pick b (says (dataOf (flip k w))) damaged) < 2048
 mended-lt w k true = mod-lt (flip k w) (lit< tt)
 mended-lt w k false = lit< tt

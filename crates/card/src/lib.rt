@@ -4,10 +4,12 @@ ghost use Prim.Native.Nat.{_+_, _*_, _<_, _≤_};
 ghost use lib.ListN.{length};
 ghost use Rattle.lists.specs.Written.{filled};
 ghost use Rattle.hamming.specs.Answer.{answerOf};
+ghost use lib.IntN.{pos};
+ghost use Rattle.floats.specs.Floats.{whole, over};
 ghost use Rattle.util.specs.Words.{wordAt};
+ghost use Rattle.util.specs.Fields.{combined};
 ghost use Rattle.card.specs.Card.{readAt, dataAt, firstDamaged};
-ghost use Rattle.card.specs.Cursor.{plainAt, signedAt, combinedAt, partsAt};
-
+ghost use Rattle.card.specs.Cursor.{plainAt, signedAt, combinedAt, partsAt, scaledAt, times32At, fractionAt, realAt};
 use hamming::Checked;
 use util::Parts;
 
@@ -44,6 +46,20 @@ pub fn decode(image: &[u8], words: &mut [u16; 832]) -> usize
     place
 }
 
+// An unsigned field over 2^power.
+pub fn fraction_of(value: u16, power: u16) -> f32
+    ensures { λ r. ⌜ r ≡ over (pos value) power ⌝ }
+{
+    value as f32 / floats::exp2(power)
+}
+
+// Two words combined, as a number.
+fn combined_real(upper: u16, lower: u16) -> f32
+    ensures { λ r. ⌜ r ≡ whole (pos (combined upper lower)) ⌝ }
+{
+    util::combine(upper, lower) as f32
+}
+
 // A place among the data of a card's words.
 pub struct Cursor {
     pub word: usize,
@@ -67,6 +83,11 @@ pub struct Combined {
 
 pub struct Parted {
     pub value: Parts,
+    pub next: Cursor,
+}
+
+pub struct Scaled {
+    pub value: f32,
     pub next: Cursor,
 }
 
@@ -95,6 +116,48 @@ impl Cursor {
         }
     }
 
+    // A word's data, 11 bits signed, times 32.
+    pub fn times_32(self, words: &[u16; 832]) -> Signed
+        requires { ⌜ self .word < 832 ⌝ }
+        ensures { λ r. ⌜ r ≡ times32At (now (words .entry)) (self .word) ⌝ }
+    {
+        let field = self.signed(words);
+        let value = field.value;
+        let next = field.next;
+        Signed {
+            value: value * 32,
+            next,
+        }
+    }
+
+    // A word's data, unsigned, over 2^power.
+    pub fn fraction(self, words: &[u16; 832], power: u16) -> Scaled
+        requires { ⌜ self .word < 832 ⌝ }
+        ensures { λ r. ⌜ r ≡ fractionAt (now (words .entry)) power (self .word) ⌝ }
+    {
+        let field = self.plain(words);
+        let value = field.value;
+        let next = field.next;
+        Scaled {
+            value: fraction_of(value, power),
+            next,
+        }
+    }
+
+    // A word's data, 11 bits signed, over 2^power.
+    pub fn scaled(self, words: &[u16; 832], power: u16) -> Scaled
+        requires { ⌜ self .word < 832 ⌝ }
+        ensures { λ r. ⌜ r ≡ scaledAt (now (words .entry)) power (self .word) ⌝ }
+    {
+        let field = self.signed(words);
+        let value = field.value;
+        let next = field.next;
+        Scaled {
+            value: value as f32 / floats::exp2(power),
+            next,
+        }
+    }
+
     // Two words, combined.
     pub fn combined(self, words: &[u16; 832]) -> Combined
         requires { ⌜ self .word < 831 ⌝ }
@@ -104,6 +167,19 @@ impl Cursor {
         let lower = upper + 1;
         Combined {
             value: util::combine(words[upper], words[lower]),
+            next: Cursor { word: upper + 2 },
+        }
+    }
+
+    // Two words, combined, as a number.
+    pub fn real(self, words: &[u16; 832]) -> Scaled
+        requires { ⌜ self .word < 831 ⌝ }
+        ensures { λ r. ⌜ r ≡ realAt (now (words .entry)) (self .word) ⌝ }
+    {
+        let upper = self.word;
+        let lower = upper + 1;
+        Scaled {
+            value: combined_real(words[upper], words[lower]),
             next: Cursor { word: upper + 2 },
         }
     }

@@ -2,8 +2,8 @@
 use Prim.Native.Nat.{ℕ}
 use mathlib.Core.Bool.{false}
 use lib.Dec.{ltb}
-use lib.IntN.{pos}
-use lib.Ieee.{Float, inf, fin, binary32, add, sub, mul, div}
+use lib.IntN.{ℤ, pos}
+use lib.Ieee.{Float, inf, fin, binary32, add, sub, mul, div, ofInt}
 use Rattle.lists.specs.Pick.{pick}
 
 infixl 60 _⊕_
@@ -22,6 +22,14 @@ x ⊗ y = mul binary32 x y
 abbrev pub _⊘_ : Float → Float → Float
 x ⊘ y = div binary32 x y
 
+-- a whole number, rounded once where it is beyond 2 ^ 24
+abbrev pub whole : ℤ → Float
+whole z = ofInt binary32 z
+
 -- 2 ^ e, which is 1 times 2 ^ e; infinity from 2 ^ 128 on
 unfoldable pub powerOfTwo : ℕ → Float
 powerOfTwo e = pick (ltb e 128) (fin false 1 (pos e)) (inf false)
+
+-- a whole number over 2 ^ e
+abbrev pub over : ℤ → ℕ → Float
+over z e = whole z ⊘ powerOfTwo e

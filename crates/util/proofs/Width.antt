@@ -6,9 +6,12 @@ use Prim.Native.Nat.{ℕ, zero, suc, _+_, _-_, _*_, _/_, _%_, _^_, _<_, _≤_}
 use native.Mathlib.Nat.{pow-suc, mod-lt, mod-eq-of-lt, lt-of-not-le, zero-add}
 use native.Mathlib.Decide.{decLe}
 use native.Mathlib.Omega.{arith}
-use lib.Pow.{pow-pos}
+use lib.Pow.{pow-pos, pow-mono}
 use lib.IntN.{ℤ, pos, negsuc, _-ℤ_}
 use lib.Signed.{mag}
+use mir.Syntax.{w16}
+use mir.Val.{toZ, ofZ}
+use mir.ValLaws.{toZ-ofZ}
 use borrow.Author.Tests.{lt-ltb, le-ltb}
 use Rattle.lists.specs.Pick.{pick}
 use Rattle.util.specs.Fields.{signed, bitsOf, Stands}
@@ -64,3 +67,9 @@ stands k p = record { range = range-of k p; bits = bits-of k; only = only-of k p
 pub minus-one : (m : ℕ) → negsuc 0 -ℤ pos m ≡ negsuc m
 minus-one zero = refl
 minus-one (suc m) = ap (λ (n : ℕ). negsuc (suc n)) (zero-add m)
+
+-- a field of up to 16 bits is an i16
+pub signed-back : (k n : ℕ) → 1 ≤ k → k ≤ 16 → toZ w16 (ofZ w16 (signed k n)) ≡ signed k n
+signed-back k n p q =
+    let l : 2 ^ (k - 1) ≤ 2 ^ 15 = pow-mono {i = k - 1} {j = 15} (omega arith) in
+    toZ-ofZ w16 (signed k n) (record { sfits = let h = range-of k p n in omega arith })

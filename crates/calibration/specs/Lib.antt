@@ -1,0 +1,2 @@
+-- The calibration record.
+pub mod Calibration
