@@ -1,0 +1,87 @@
+-- How large the numbers on the way to an offset are. Assumes nothing.
+use Prim.Native.Nat.{ℕ, zero, suc, _+_, _*_, _^_, _<_, _≤_}
+use mathlib.Core.Path.{_≡_, sym, ap, ap₂, _∙_}
+use mathlib.Core.Bool.{Bool, true, false, cond}
+use native.Mathlib.Nat.{le-trans, mul-le-mul-left, mul-le-mul-right}
+use native.Mathlib.Omega.{arith}
+use lib.Dec.{ltb, lit≤, leb·suc-suc}
+use lib.IntN.{ℤ, pos, negsuc, negℤ, _+ℤ_, _*ℤ_}
+use lib.Pow.{pow-mono}
+use lib.Signed.{mag, ltZ, leZ}
+use mir.Syntax.{w16, w32}
+use mir.Val.{SFits, toZ, ofZ}
+use mir.ValLaws.{toZ-ofZ}
+use borrow.Author.Tests.{ltb-true, ltb-false, lt-ltb, le-ltb}
+use Rattle.util.specs.Fields.{signed}
+use Rattle.util.proofs.Width.{stands, average-range}
+use Rattle.offsets.specs.Offsets.{averageOf, scaleOf, wordOf, scaledOf, scaledAt, inRange}
+use Rattle.offsets.specs.declared.Scale.{Scale}
+
+-- ---- the range of an i16, as two tests find it
+
+clash : {A : Type 0} → false ≡ true → A
+clash e = absurd (let z : _≡_ {A = ℕ} 0 1 = cc in let q : ⊥ = omega arith in q)
+
+pub too-low : (z : ℤ) → ltZ z (negsuc 32767) ≡ true → false ≡ inRange z
+unfolding inRange
+too-low (pos n) e = clash e
+too-low (negsuc n) e = let h = ltb-true 32767 n e in sym (le-ltb n 32768 (omega arith))
+
+pub by-top : (z : ℤ) → ltZ z (negsuc 32767) ≡ false → leZ z (pos 32767) ≡ inRange z
+unfolding inRange
+by-top (pos n) e = sym (leb·suc-suc n 32767)
+by-top (negsuc n) e = let h = ltb-false 32767 n e in sym (lt-ltb n 32768 (omega arith))
+
+pub in-range : (z : ℤ) → inRange z ≡ true → mag z < 32768
+unfolding inRange
+in-range z e = ltb-true (mag z) 32768 e
+
+-- ---- raw × 2^scale, and its sum with the average
+
+minus : (r : ℕ) → mag (negℤ (pos r)) ≤ r
+minus zero = omega arith
+minus (suc r) = omega arith
+
+times : (z : ℤ) (p : ℕ) → mag z < 1024 → p ≤ 16384 → mag (z *ℤ pos p) ≤ 16777216
+times (pos n) p h l = le-trans (mul-le-mul-left n l) (let k : n ≤ 1024 = omega arith in mul-le-mul-right 16384 k)
+times (negsuc n) p h l = le-trans (minus (suc n * p)) (le-trans (mul-le-mul-left (suc n) l) (let k : suc n ≤ 1024 = h in mul-le-mul-right 16384 k))
+
+pub scaled-mag : (raw scale : ℕ) → scale < 15 → mag (scaledOf raw scale) ≤ 16777216
+unfolding scaledOf
+scaled-mag raw scale h = times (signed 11 raw) (2 ^ scale) (stands 11 (lit≤ tt) .range raw) (pow-mono {i = scale} {j = 14} (omega arith))
+
+by-test : (t : Bool) (m n b : ℕ) → m ≤ b → n ≤ b → mag (cond t (negsuc m) (pos n)) ≤ b
+by-test true m n b h k = h
+by-test false m n b h k = k
+
+pub sum-mag : (a b : ℤ) → mag a < 32768 → mag b ≤ 16777216 → mag (a +ℤ b) ≤ 33554432
+sum-mag (pos a) (pos b) h k = omega arith
+sum-mag (pos a) (negsuc b) h k = by-test (ltb a (suc b)) _ _ 33554432 (omega arith) (omega arith)
+sum-mag (negsuc a) (pos b) h k = by-test (ltb b (suc a)) _ _ 33554432 (omega arith) (omega arith)
+sum-mag (negsuc a) (negsuc b) h k = omega arith
+
+pub average-mag : (w : ℕ → ℕ) → mag (averageOf w) < 32768
+unfolding averageOf
+average-mag w = average-range (w 17) (w 18)
+
+-- ---- as the code has them
+
+pub back16 : (z : ℤ) → mag z < 32768 → toZ w16 (ofZ w16 z) ≡ z
+back16 z h = toZ-ofZ w16 z (record { sfits = h })
+
+pub back32 : (z : ℤ) → mag z < 2147483648 → toZ w32 (ofZ w32 z) ≡ z
+back32 z h = toZ-ofZ w32 z (record { sfits = h })
+
+-- ---- what the scale as read stands for
+
+module _ (w : ℕ → ℕ) (s : Scale) (e : s ≡ scaleOf w) where
+  average-is : s .average ≡ averageOf w
+  unfolding scaleOf
+  average-is = ap (λ (x : Scale). x .average) e
+
+  pub average-clean : toZ w16 (ofZ w16 (s .average)) ≡ averageOf w
+  average-clean = ap (λ (a : ℤ). toZ w16 (ofZ w16 a)) average-is ∙ back16 (averageOf w) (average-mag w)
+
+  pub part-at : (entry word : ℕ) → word ≡ wordOf entry → scaledOf (w word) (s .scale) ≡ scaledAt w entry
+  unfolding scaleOf scaledAt
+  part-at entry word q = ap₂ (λ (k : ℕ) (x : Scale). scaledOf (w k) (x .scale)) q e

@@ -1,0 +1,48 @@
+-- `offsets::fill_offsets` meets its contract: entry after entry, none of them outside. Assumes nothing.
+use borrow.Author.Needs.{needs, sfits-of}
+use mathlib.Core.Path.{_≡_, _∙_}
+use Prim.Native.Nat.{ℕ, _+_, _-_}
+use native.Mathlib.Omega.{arith}
+use mir.Syntax.{w16}
+use mir.Facts.{toZ-ofZ}
+use Rattle.lists.proofs.Fill as fill
+use Rattle.lists.proofs.Fill.{Filling}
+use Rattle.card.specs.Cursor.{at}
+use Rattle.offsets.specs.Offsets.{offsetAt}
+use Rattle.offsets.proofs.fill_offsets.Statement.{statement}
+use Rattle.offsets.proofs.fill_offsets.Tie as tie
+
+abbrev Inv-loop : tie.InvT-loop
+Inv-loop words scale first table₀ i₀ table i = Filling (λ (k : ℕ). offsetAt (at words) (first + k)) 192 table₀ table i
+
+abbrev μ-loop : tie.MeasureT-loop
+μ-loop words scale first table₀ i₀ table i = 192 - i
+
+loop-holds : tie.Need-loop-holds Inv-loop μ-loop
+loop-holds c = fill.start _ _ _
+
+loop-again : tie.Need-loop-again Inv-loop μ-loop
+loop-again c =
+    fill.one-more _ (c .before .before .loop .inv) (c .before .loop-test .taken) (toZ-ofZ {w = w16} (sfits-of (c .offset-at .ok)) ∙ c .offset-at .ensures)
+
+returns : tie.Need-returns Inv-loop μ-loop
+returns c = fill.done _ (c .before .loop .inv) (c .loop-test .left)
+
+pub fill-offsets-spec : {M : Type 1} → statement M
+fill-offsets-spec =
+    tie.close
+    (tie.spec
+    Inv-loop
+    μ-loop
+    loop-holds
+    (λ c. omega arith)
+    (λ c κs.
+    let p = c .before .before .pre in
+    (omega arith, p .0 .0, p .0 .1, p .1 .0 (c .before .before .args .first + c .before .loop .i) (omega arith)))
+    (λ c. search needs)
+    (λ c. search needs)
+    (λ c. search needs)
+    (λ c. omega arith)
+    loop-again
+    (λ c. c .before .loop .inv .long)
+    returns)

@@ -1,0 +1,2 @@
+-- Pixel offsets.
+pub mod Offsets
