@@ -1,0 +1,2 @@
+-- Sensitivities and coefficients.
+pub mod Tables
