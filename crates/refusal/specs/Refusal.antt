@@ -2,6 +2,8 @@
 use Prim.Native.Nat.{ℕ}
 use Rattle.refusal.specs.declared.Refusal.{Refusal}
 use Rattle.refusal.specs.declared.Refusal.the-variants.{ShortImage, ShortTable, DamagedWord, OffsetScale, OffsetRange, BasicRange, SupplyRange, ZeroDivisor, DataTooLarge}
+use Rattle.refusal.specs.declared.Verdict.{Verdict}
+use Rattle.refusal.specs.declared.Verdict.the-variants.{Pass, Refused}
 
 abbrev pub numberOf : Refusal → ℕ
 numberOf (ShortImage length) = 1
@@ -35,3 +37,16 @@ valueOf (BasicRange range) = 0
 valueOf SupplyRange = 0
 valueOf ZeroDivisor = 0
 valueOf (DataTooLarge given) = 0
+
+-- of a verdict: 0, 0, 0 where nothing is refused
+abbrev pub verdictNumber : Verdict → ℕ
+verdictNumber Pass = 0
+verdictNumber (Refused refusal) = numberOf refusal
+
+abbrev pub verdictPlace : Verdict → ℕ
+verdictPlace Pass = 0
+verdictPlace (Refused refusal) = placeOf refusal
+
+abbrev pub verdictValue : Verdict → ℕ
+verdictValue Pass = 0
+verdictValue (Refused refusal) = valueOf refusal

@@ -1,6 +1,6 @@
 // The numbered refusals: what stops a call, and where. A call that answers one has changed nothing.
 ghost use mathlib.Core.Path.{_≡_};
-ghost use Rattle.refusal.specs.Refusal.{numberOf, placeOf, valueOf};
+ghost use Rattle.refusal.specs.Refusal.{numberOf, placeOf, valueOf, verdictNumber, verdictPlace, verdictValue};
 
 pub enum Refusal {
     // 1: the image is shorter than a card.
@@ -72,6 +72,44 @@ impl Refusal {
             Refusal::SupplyRange => 0,
             Refusal::ZeroDivisor => 0,
             Refusal::DataTooLarge { data: _ } => 0,
+        }
+    }
+}
+
+// What a gate answers.
+pub enum Verdict {
+    Pass,
+    Refused(Refusal),
+}
+
+impl Verdict {
+    // The refusal's number, 0 for none.
+    pub fn number(self) -> u64
+        ensures { λ r. ⌜ r ≡ verdictNumber self ⌝ }
+    {
+        match self {
+            Verdict::Pass => 0,
+            Verdict::Refused(refusal) => refusal.number(),
+        }
+    }
+
+    // The refusal's place, 0 for none.
+    pub fn place(self) -> u64
+        ensures { λ r. ⌜ r ≡ verdictPlace self ⌝ }
+    {
+        match self {
+            Verdict::Pass => 0,
+            Verdict::Refused(refusal) => refusal.place(),
+        }
+    }
+
+    // The refusal's value, 0 for none.
+    pub fn value(self) -> u64
+        ensures { λ r. ⌜ r ≡ verdictValue self ⌝ }
+    {
+        match self {
+            Verdict::Pass => 0,
+            Verdict::Refused(refusal) => refusal.value(),
         }
     }
 }
