@@ -1,10 +1,11 @@
 -- Not-a-numbers: which values and which patterns are, and the one that code makes. Assumes nothing.
 use Prim.Native.Nat.{ℕ, _%_, _<_, _≤_}
-use mathlib.Core.Path.{_≡_, refl, sym, _∙_, subst}
+use mathlib.Core.Path.{_≡_, refl, sym, ap, _∙_, subst}
 use mathlib.Core.Bool.{true, false, not}
 use lib.Dec.{T}
 use lib.Ieee.{Float, nan, inf, fin, binary32, div, ne, isNan, nanBits, ofBits, toBits}
-use lib.Ieee.Bits.{nanBits-is, nanBits-above}
+use lib.Ieee.Bits.{nanBits-is, nanBits-above, is-false}
+use lib.Ieee.Compare.{differs-from-itself}
 use borrow.Author.Tests.{lt-ltb, le-ltb}
 
 pub is-nan : (x : Float) → isNan x ≡ true → x ≡ nan
@@ -19,6 +20,14 @@ unfolding ne isNan
 same-no-nan nan e = subst T e tt
 same-no-nan (inf s) e = tt
 same-no-nan (fin s m e') e = tt
+
+-- the code's test for a not-a-number
+pub differs : (x : Float) → ne x x ≡ true → isNan x ≡ true
+unfolding isNan
+differs x e = ap isNan (differs-from-itself x (subst T (sym e) tt))
+
+pub agrees : (x : Float) → ne x x ≡ false → isNan x ≡ false
+agrees x e = is-false (isNan x) (same-no-nan x e)
 
 pub zero-by-zero : div binary32 (ofBits binary32 0) (ofBits binary32 0) ≡ nan
 unfolding div ofBits

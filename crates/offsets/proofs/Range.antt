@@ -14,27 +14,9 @@ use mir.ValLaws.{toZ-ofZ}
 use borrow.Author.Tests.{ltb-true, ltb-false, lt-ltb, le-ltb}
 use Rattle.util.specs.Fields.{signed}
 use Rattle.util.proofs.Width.{stands, average-range}
-use Rattle.offsets.specs.Offsets.{averageOf, scaleOf, wordOf, scaledOf, scaledAt, inRange}
+use Rattle.util.proofs.Range.{back16}
+use Rattle.offsets.specs.Offsets.{averageOf, scaleOf, wordOf, scaledOf, scaledAt}
 use Rattle.offsets.specs.declared.Scale.{Scale}
-
--- ---- the range of an i16, as two tests find it
-
-clash : {A : Type 0} → false ≡ true → A
-clash e = absurd (let z : _≡_ {A = ℕ} 0 1 = cc in let q : ⊥ = omega arith in q)
-
-pub too-low : (z : ℤ) → ltZ z (negsuc 32767) ≡ true → false ≡ inRange z
-unfolding inRange
-too-low (pos n) e = clash e
-too-low (negsuc n) e = let h = ltb-true 32767 n e in sym (le-ltb n 32768 (omega arith))
-
-pub by-top : (z : ℤ) → ltZ z (negsuc 32767) ≡ false → leZ z (pos 32767) ≡ inRange z
-unfolding inRange
-by-top (pos n) e = sym (leb·suc-suc n 32767)
-by-top (negsuc n) e = let h = ltb-false 32767 n e in sym (lt-ltb n 32768 (omega arith))
-
-pub in-range : (z : ℤ) → inRange z ≡ true → mag z < 32768
-unfolding inRange
-in-range z e = ltb-true (mag z) 32768 e
 
 -- ---- raw × 2^scale, and its sum with the average
 
@@ -50,27 +32,9 @@ pub scaled-mag : (raw scale : ℕ) → scale < 15 → mag (scaledOf raw scale) �
 unfolding scaledOf
 scaled-mag raw scale h = times (signed 11 raw) (2 ^ scale) (stands 11 (lit≤ tt) .range raw) (pow-mono {i = scale} {j = 14} (omega arith))
 
-by-test : (t : Bool) (m n b : ℕ) → m ≤ b → n ≤ b → mag (cond t (negsuc m) (pos n)) ≤ b
-by-test true m n b h k = h
-by-test false m n b h k = k
-
-pub sum-mag : (a b : ℤ) → mag a < 32768 → mag b ≤ 16777216 → mag (a +ℤ b) ≤ 33554432
-sum-mag (pos a) (pos b) h k = omega arith
-sum-mag (pos a) (negsuc b) h k = by-test (ltb a (suc b)) _ _ 33554432 (omega arith) (omega arith)
-sum-mag (negsuc a) (pos b) h k = by-test (ltb b (suc a)) _ _ 33554432 (omega arith) (omega arith)
-sum-mag (negsuc a) (negsuc b) h k = omega arith
-
 pub average-mag : (w : ℕ → ℕ) → mag (averageOf w) < 32768
 unfolding averageOf
 average-mag w = average-range (w 17) (w 18)
-
--- ---- as the code has them
-
-pub back16 : (z : ℤ) → mag z < 32768 → toZ w16 (ofZ w16 z) ≡ z
-back16 z h = toZ-ofZ w16 z (record { sfits = h })
-
-pub back32 : (z : ℤ) → mag z < 2147483648 → toZ w32 (ofZ w32 z) ≡ z
-back32 z h = toZ-ofZ w32 z (record { sfits = h })
 
 -- ---- what the scale as read stands for
 

@@ -3,10 +3,9 @@ use Prim.Native.Nat.{ℕ, _+_, _-_, _/_, _^_}
 use mathlib.Core.Bool.{Bool, not, _&&_}
 use lib.Dec.{ltb}
 use lib.IntN.{ℤ, pos, _+ℤ_, _*ℤ_}
-use lib.Signed.{mag}
 use Rattle.lists.specs.Pick.{pick}
 use Rattle.lists.specs.First.{firstFrom}
-use Rattle.util.specs.Fields.{signed, offsetAverage}
+use Rattle.util.specs.Fields.{signed, offsetAverage, inI16}
 use Rattle.offsets.specs.declared.Scale.{Scale}
 
 -- upper 6 bits
@@ -34,13 +33,9 @@ scaledAt w entry = scaledOf (w (wordOf entry)) (offsetScale w)
 unfoldable pub offsetAt : (ℕ → ℕ) → ℕ → ℤ
 offsetAt w entry = averageOf w +ℤ scaledAt w entry
 
--- the numbers of an i16: `mag` of n and of -1 - n is n
-unfoldable pub inRange : ℤ → Bool
-inRange z = ltb (mag z) 32768
-
 -- raw × 2^scale, or its sum with the average, is outside
 unfoldable pub outsideAt : (ℕ → ℕ) → ℕ → Bool
-outsideAt w entry = not (inRange (scaledAt w entry) && inRange (offsetAt w entry))
+outsideAt w entry = not (inI16 (scaledAt w entry) && inI16 (offsetAt w entry))
 
 -- the first such entry, or 384
 unfoldable pub firstOutside : (ℕ → ℕ) → ℕ

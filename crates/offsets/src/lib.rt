@@ -8,7 +8,7 @@ ghost use lib.Signed.{mag};
 ghost use Rattle.lists.specs.Written.{filled};
 ghost use Rattle.util.specs.Fields.{signed};
 ghost use Rattle.card.specs.Cursor.{at};
-ghost use Rattle.offsets.specs.Offsets.{scaleOf, inRange, wordOf, scaledOf, scaledAt, outsideAt, firstOutside, offsetAt};
+ghost use Rattle.offsets.specs.Offsets.{scaleOf, wordOf, scaledOf, scaledAt, outsideAt, firstOutside, offsetAt};
 use card::Cursor;
 
 // The type of a pixel's offset.
@@ -35,16 +35,6 @@ pub fn read_scale(words: &[u16; 832]) -> Scale
         scale: parts.upper,
         average: util::offset_average(upper.value, lower.value),
     }
-}
-
-// Whether an offset is one that its type holds.
-fn in_range(z: i32) -> bool
-    ensures { λ r. ⌜ r ≡ inRange z ⌝ }
-{
-    if z < -32768 {
-        return false;
-    }
-    z <= 32767
 }
 
 // A raw offset, which is 11 bits signed, times 2^scale.
@@ -91,8 +81,8 @@ fn outside(words: &[u16; 832], scale: Scale, entry: usize) -> bool
     ensures { λ r. ⌜ r ≡ outsideAt (at (now (words .entry))) entry ⌝ }
 {
     let part = part_at(words, scale, entry);
-    if in_range(part) {
-        !in_range(sum(scale.average, part))
+    if util::fits_i16(part) {
+        !util::fits_i16(sum(scale.average, part))
     } else {
         true
     }

@@ -2,3 +2,4 @@
 pub mod Width
 pub mod Shift
 pub mod Words
+pub mod Range

@@ -1,6 +1,7 @@
 -- Signed fields, combined words and words in two parts. Assumes nothing.
 use Prim.Native.Nat.{ℕ, suc, _-_, _*_, _/_, _%_, _^_, _<_}
 use mathlib.Core.Path.{_≡_}
+use mathlib.Core.Bool.{Bool}
 use lib.Bits.{bitOr}
 use lib.Dec.{ltb}
 use lib.IntN.{ℤ, pos, negsuc}
@@ -37,3 +38,7 @@ splitAt width n = record { upper = n / 2 ^ width; lower = n % 2 ^ width }
 -- combined, low 11 bits, signed
 unfoldable pub offsetAverage : ℕ → ℕ → ℤ
 offsetAverage upper lower = signed 11 (combined upper lower)
+
+-- -32768 to 32767
+unfoldable pub inI16 : ℤ → Bool
+inI16 z = ltb (mag z) 32768

@@ -1,9 +1,11 @@
 // Words and their fields: big-endian words, signed fields over the width, combined words, words in two parts.
 ghost use mathlib.Core.Path.{_≡_};
 ghost use Prim.Native.Nat.{_+_, _*_, _<_, _≤_};
+ghost use lib.IntN.{_-ℤ_};
 ghost use lib.ListN.{length};
+ghost use lib.Signed.{mag};
 ghost use Rattle.util.specs.Words.{bigEndian, wordAt};
-ghost use Rattle.util.specs.Fields.{signed, combined, splitAt, offsetAverage};
+ghost use Rattle.util.specs.Fields.{signed, combined, splitAt, offsetAverage, inI16};
 
 // A word in two parts.
 pub struct Parts {
@@ -72,4 +74,21 @@ pub fn offset_average(upper: u16, lower: u16) -> i16
     ensures { λ r. ⌜ r ≡ offsetAverage upper lower ⌝ }
 {
     i16_from_bits(combine(upper, lower), 11)
+}
+
+// Whether an i16 holds the number.
+pub fn fits_i16(z: i32) -> bool
+    ensures { λ r. ⌜ r ≡ inI16 z ⌝ }
+{
+    if z < -32768 {
+        return false;
+    }
+    z <= 32767
+}
+
+// The exact difference.
+pub fn difference(a: i16, b: i16) -> i32
+    ensures { λ r. ⌜ (r ≡ a -ℤ b) × (mag r ≤ 65536) ⌝ }
+{
+    a as i32 - b as i32
 }

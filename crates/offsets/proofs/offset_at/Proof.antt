@@ -10,8 +10,10 @@ use mir.Facts.{toZ-ofZ}
 use mir.Syntax.{w16, w32}
 use mir.Val.{SFits, toZ, ofZ}
 use Rattle.card.specs.Cursor.{at}
-use Rattle.offsets.specs.Offsets.{scaledAt, offsetAt, inRange, outsideAt}
-use Rattle.offsets.proofs.Range.{average-clean, back16, in-range}
+use Rattle.util.specs.Fields.{inI16}
+use Rattle.offsets.specs.Offsets.{scaledAt, offsetAt, outsideAt}
+use Rattle.util.proofs.Range.{back16, in-range}
+use Rattle.offsets.proofs.Range.{average-clean}
 use Rattle.offsets.proofs.offset_at.Statement.{statement}
 use Rattle.offsets.proofs.offset_at.Tie as tie
 
@@ -22,7 +24,7 @@ both false b e = absurd (subst T e tt)
 
 inside : (w : ℕ → ℕ) (entry : ℕ) → outsideAt w entry ≡ false → mag (offsetAt w entry) < 32768
 unfolding outsideAt
-inside w entry e = in-range (offsetAt w entry) (both (inRange (scaledAt w entry)) (inRange (offsetAt w entry)) e)
+inside w entry e = in-range (offsetAt w entry) (both (inI16 (scaledAt w entry)) (inI16 (offsetAt w entry)) e)
 
 total : (c : tie.After-sum) → toZ w32 (ofZ w32 (c .sum .result)) ≡ offsetAt (at (c .before .before .before .args .words .now)) (c .before .before .before .args .entry)
 unfolding offsetAt

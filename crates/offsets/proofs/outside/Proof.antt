@@ -7,7 +7,8 @@ use mir.Facts.{toZ-ofZ}
 use mir.Syntax.{w32}
 use mir.Val.{toZ, ofZ}
 use Rattle.card.specs.Cursor.{at}
-use Rattle.offsets.specs.Offsets.{scaledAt, offsetAt, inRange, outsideAt}
+use Rattle.util.specs.Fields.{inI16}
+use Rattle.offsets.specs.Offsets.{scaledAt, offsetAt, outsideAt}
 use Rattle.offsets.proofs.Range.{average-clean}
 use Rattle.offsets.proofs.outside.Statement.{statement}
 use Rattle.offsets.proofs.outside.Tie as tie
@@ -15,16 +16,16 @@ use Rattle.offsets.proofs.outside.Tie as tie
 part : (c : tie.After-part-at) → toZ w32 (ofZ w32 (c .part-at .result)) ≡ scaledAt (at (c .before .args .words .now)) (c .before .args .entry)
 part c = toZ-ofZ {w = w32} (record { sfits = c .part-at .ok }) ∙ c .part-at .ensures .0
 
-judged : (c : tie.After-in-range) → c .in-range .result ≡ inRange (scaledAt (at (c .before .before .args .words .now)) (c .before .before .args .entry))
-judged c = c .in-range .ensures ∙ ap inRange (part (c .before))
+judged : (c : tie.After-fits-i16) → c .fits-i16 .result ≡ inI16 (scaledAt (at (c .before .before .args .words .now)) (c .before .before .args .entry))
+judged c = c .fits-i16 .ensures ∙ ap inI16 (part (c .before))
 
 -- the sum is the offset
-total : (c : tie.After-in-range2) → c .in-range2 .result ≡ inRange (offsetAt (at (c .before .before .before .before .before .before .args .words .now)) (c .before .before .before .before .before .before .args .entry))
+total : (c : tie.After-fits-i162) → c .fits-i162 .result ≡ inI16 (offsetAt (at (c .before .before .before .before .before .before .args .words .now)) (c .before .before .before .before .before .before .args .entry))
 unfolding offsetAt
 total c =
     let s = c .before .before .before .before .before .before in
-    c .in-range2 .ensures
-    ∙ ap inRange
+    c .fits-i162 .ensures
+    ∙ ap inI16
     (toZ-ofZ {w = w32} (record { sfits = c .before .sum .ok }) ∙ c .before .sum .ensures
     ∙ ap₂ (λ (a z : ℤ). a +ℤ z) (average-clean _ _ (s .pre .1)) (part (c .before .before .before .before .before)))
 
@@ -33,13 +34,13 @@ unfolding outsideAt
 returns c =
     let s = c .before .before .before .before .before .before in
     ap not (total c)
-    ∙ sym (ap (λ (b : Bool). not (b && inRange (offsetAt (at (s .args .words .now)) (s .args .entry)))) (sym (judged (c .before .before .before .before)) ∙ c .before .before .before .if1 .taken))
+    ∙ sym (ap (λ (b : Bool). not (b && inI16 (offsetAt (at (s .args .words .now)) (s .args .entry)))) (sym (judged (c .before .before .before .before)) ∙ c .before .before .before .if1 .taken))
 
 returns-2 : tie.Need-returns-2
 unfolding outsideAt
 returns-2 c =
     let s = c .before .before .before in
-    sym (ap (λ (b : Bool). not (b && inRange (offsetAt (at (s .args .words .now)) (s .args .entry)))) (sym (judged (c .before)) ∙ c .if1 .left))
+    sym (ap (λ (b : Bool). not (b && inI16 (offsetAt (at (s .args .words .now)) (s .args .entry)))) (sym (judged (c .before)) ∙ c .if1 .left))
 
 pub outside-spec : {M : Type 1} → statement M
 outside-spec =

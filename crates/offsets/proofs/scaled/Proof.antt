@@ -14,7 +14,8 @@ use Rattle.util.specs.Fields.{signed}
 use Rattle.util.proofs.Shift.{one-shifted}
 use Rattle.util.proofs.Width.{stands, signed-back}
 use Rattle.offsets.specs.Offsets.{scaledOf}
-use Rattle.offsets.proofs.Range.{back32, scaled-mag}
+use Rattle.util.proofs.Range.{back32}
+use Rattle.offsets.proofs.Range.{scaled-mag}
 use Rattle.offsets.proofs.scaled.Statement.{statement}
 use Rattle.offsets.proofs.scaled.Tie as tie
 

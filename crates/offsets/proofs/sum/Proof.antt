@@ -3,7 +3,7 @@ use native.Mathlib.Omega.{arith}
 use borrow.Author.Needs.{sfits-of}
 use lib.IntN.{_+ℤ_}
 use mir.Facts.{toZ-ofZ}
-use Rattle.offsets.proofs.Range.{back32, sum-mag}
+use Rattle.util.proofs.Range.{back32, sum-mag}
 use Rattle.offsets.proofs.sum.Statement.{statement}
 use Rattle.offsets.proofs.sum.Tie as tie
 
@@ -14,7 +14,7 @@ add-result : tie.Need-add-result
 add-result c =
     let a = c .args .average in
     rw (toZ-ofZ (c .fits .average), back32 a (omega (arith, c .fits .average .sfits)), toZ-ofZ (c .fits .part))
-    (sfits-of (omega (arith, sum-mag a (c .args .part) (c .fits .average .sfits) (c .pre))))
+    (sfits-of (omega (arith, sum-mag 32767 16777216 33554432 a (c .args .part) (omega arith) (omega (arith, c .fits .average .sfits)) (c .pre))))
 
 returns : tie.Need-returns
 returns c =
@@ -23,7 +23,7 @@ returns c =
       toZ-ofZ (c .fits .average),
       back32 a (omega (arith, c .fits .average .sfits)),
       toZ-ofZ (c .fits .part),
-      back32 (a +ℤ c .args .part) (omega (arith, sum-mag a (c .args .part) (c .fits .average .sfits) (c .pre))),
+      back32 (a +ℤ c .args .part) (omega (arith, sum-mag 32767 16777216 33554432 a (c .args .part) (omega arith) (omega (arith, c .fits .average .sfits)) (c .pre))),
     )
 
 pub sum-spec : {M : Type 1} → statement M

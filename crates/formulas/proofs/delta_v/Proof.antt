@@ -1,0 +1,32 @@
+-- `formulas::delta_v` meets its contract: the difference is small, so no digit of it is lost. Assumes nothing.
+use borrow.Author.Needs.{needs}
+use mathlib.Core.Path.{_≡_, sym, ap, ap₂, _∙_, subst}
+use Prim.Native.Nat.{_≤_}
+use native.Mathlib.Omega.{arith}
+use lib.Dec.{T, le→leb, lt→ltb}
+use lib.IntN.{ℤ, pos, negsuc}
+use lib.Ieee.{binary32, inFloat}
+use lib.Signed.{mag}
+use mir.Facts.{toZ-ofZ}
+use mir.Syntax.{w32}
+use mir.Val.{toZ, ofZ}
+use Rattle.formulas.specs.Frame.{deltaOf}
+use Rattle.formulas.proofs.delta_v.Statement.{statement}
+use Rattle.formulas.proofs.delta_v.Tie as tie
+
+whole-in : (z : ℤ) → mag z ≤ 65536 → T (inFloat binary32 z)
+unfolding inFloat
+whole-in (pos n) h = le→leb n 0x1000000 (omega arith)
+whole-in (negsuc n) h = lt→ltb n 0x1000000 (omega arith)
+
+int-to-float-result : tie.Need-int-to-float-result
+int-to-float-result c = rw (toZ-ofZ {w = w32} (record { sfits = c .before .difference .ok })) (whole-in (c .before .difference .result) (c .before .difference .ensures .1))
+
+returns : tie.Need-returns
+unfolding deltaOf
+returns c =
+    let d = c .before .before .before in
+    rw (toZ-ofZ {w = w32} (record { sfits = d .difference .ok }), d .difference .ensures .0) (search needs)
+
+pub delta-v-spec : {M : Type 1} → statement M
+delta-v-spec = tie.close (tie.spec (λ c κs. search needs) int-to-float-result (λ c. search needs) returns)

@@ -1,0 +1,12 @@
+-- `formulas::final_value` meets its contract: its callees' contracts, put together. Assumes nothing.
+use borrow.Author.Needs.{needs}
+use Rattle.formulas.specs.Pixel.{finalOf}
+use Rattle.formulas.proofs.final_value.Statement.{statement}
+use Rattle.formulas.proofs.final_value.Tie as tie
+
+returns : tie.Need-returns
+unfolding finalOf
+returns c = cc
+
+pub final-value-spec : {M : Type 1} → statement M
+final-value-spec = tie.close (tie.spec (λ c κs. search needs) (λ c κs. search needs) returns)

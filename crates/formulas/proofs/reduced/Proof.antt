@@ -1,0 +1,10 @@
+-- `formulas::reduced` meets its contract: for each case. Assumes nothing.
+use borrow.Author.Needs.{needs}
+use Rattle.formulas.proofs.reduced.Statement.{statement}
+use Rattle.formulas.proofs.reduced.Tie as tie
+
+returns-2 : tie.Need-returns-2
+returns-2 c = rw (c .before .by .given .1)
+
+pub reduced-spec : {M : Type 1} → statement M
+reduced-spec = tie.close (tie.spec (λ c. search needs) (λ c. search needs) (λ c. search needs) returns-2)

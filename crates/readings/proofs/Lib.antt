@@ -1,0 +1,2 @@
+-- The claim over the list.
+pub mod Claim

@@ -1,0 +1,2 @@
+-- The readings marked P.
+pub mod Readings

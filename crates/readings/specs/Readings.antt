@@ -1,0 +1,46 @@
+-- Document 01, "Readings to try": those marked P, as one list. Assumes nothing.
+use Prim.Native.Nat.{ℕ}
+use mathlib.Core.Path.{_≡_}
+use mathlib.Core.List.{List, [], _∷_}
+use lib.IntN.{ℤ, pos, negsuc}
+use Rattle.floats.specs.Floats.{whole}
+use Rattle.util.specs.Fields.{signed, combined, offsetAverage}
+use Rattle.hamming.specs.Word.{encoded, decoded, says, damaged}
+use Rattle.root.specs.Root.{root}
+
+pub data Reading : Type 0 where
+  encodes : ℕ → ℕ → Reading
+  decodes : ℕ → ℕ → Reading
+  isDamaged : ℕ → Reading
+  combines : ℕ → ℕ → ℕ → Reading
+  isSigned : ℕ → ℕ → ℤ → Reading
+  averages : ℕ → ℕ → ℤ → Reading
+  roots : ℕ → ℕ → Reading
+
+-- what each kind of reading says
+abbrev pub Holds : Reading → Type 0
+Holds (encodes d w) = encoded d ≡ w
+Holds (decodes w d) = decoded w ≡ says d
+Holds (isDamaged w) = decoded w ≡ damaged
+Holds (combines upper lower n) = combined upper lower ≡ n
+Holds (isSigned width n z) = signed width n ≡ z
+Holds (averages upper lower z) = offsetAverage upper lower ≡ z
+Holds (roots x r) = root (whole (pos x)) ≡ whole (pos r)
+
+-- -1024 is -1 - 1023
+abbrev pub readings : List Reading
+readings =
+    encodes 0x001 0x9801
+    ∷ encodes 0x003 0x3003
+    ∷ encodes 0x400 0xFC00
+    ∷ encodes 0x7FF 0xFFFF
+    ∷ decodes 0x9800 1
+    ∷ decodes 0x8000 0
+    ∷ isDamaged 0x0003
+    ∷ decodes 0x0007 7
+    ∷ combines 1 0x020 32
+    ∷ isSigned 11 0x400 (negsuc 1023)
+    ∷ isSigned 11 0x3FF (pos 1023)
+    ∷ averages 0x020 0 (negsuc 1023)
+    ∷ roots 81 3
+    ∷ []

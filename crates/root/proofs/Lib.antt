@@ -1,0 +1,15 @@
+-- Nearest, Demand, Ends and Readings are for callers to cite; the rest is what they lean on.
+mod Patterns
+mod Numbers
+mod Squares
+mod Magnitude
+mod Unique
+mod Exists
+mod Values
+mod Bits
+mod Fourth
+mod Kelvin
+pub mod Ends
+pub mod Nearest
+pub mod Demand
+pub mod Readings
