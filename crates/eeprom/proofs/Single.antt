@@ -7,7 +7,8 @@ use lib.Ieee.{Float}
 use Rattle.refusal.specs.declared.Verdict.{Verdict}
 use Rattle.calibration.specs.declared.Calibration.{Calibration}
 use Rattle.eeprom.specs.declared.Loaded.{Loaded}
-use Rattle.eeprom.specs.Load.{Loads, unless}
+use Rattle.refusal.specs.Refusal.{unless}
+use Rattle.eeprom.specs.Load.{Loads}
 
 both : {A : Type 0} {a b : Verdict} (new old : A) {x y : A} → a ≡ b → x ≡ unless a new old → y ≡ unless b new old → x ≡ y
 both new old e p q = p ∙ ap (λ (z : Verdict). unless z new old) e ∙ sym q

@@ -11,6 +11,7 @@ use Rattle.lists.specs.Written.{filled}
 use Rattle.refusal.specs.declared.Refusal.the-variants.{ShortImage, ShortTable, DamagedWord, OffsetScale, OffsetRange}
 use Rattle.refusal.specs.declared.Verdict.{Verdict}
 use Rattle.refusal.specs.declared.Verdict.the-variants.{Pass, Refused}
+use Rattle.refusal.specs.Refusal.{unless}
 use Rattle.util.specs.Words.{wordAt}
 use Rattle.card.specs.Card.{dataAt, firstDamaged}
 use Rattle.offsets.specs.Offsets.{offsetScale, firstOutside, offsetAt}
@@ -33,11 +34,6 @@ loadVerdict image shortest =
     (pick (ltb shortest 192) (Refused ShortTable)
     (pick (ltb (firstDamaged image) 832) (Refused (DamagedWord (firstDamaged image) (wordAt image (firstDamaged image))))
     (offsetsVerdict (dataAt image))))
-
--- a refusal leaves the old
-abbrev pub unless : {A : Type 0} → Verdict → A → A → A
-unless Pass new old = new
-unless (Refused refusal) new old = old
 
 -- the first 192 entries of each table over the data of the words; the others stay
 abbrev pub newOffsets : (ℕ → ℕ) → ℕ → List ℤ → List ℤ

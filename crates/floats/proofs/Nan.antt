@@ -1,7 +1,7 @@
 -- Not-a-numbers: which values and which patterns are, and the one that code makes. Assumes nothing.
 use Prim.Native.Nat.{ℕ, _%_, _<_, _≤_}
 use mathlib.Core.Path.{_≡_, refl, sym, ap, _∙_, subst}
-use mathlib.Core.Bool.{true, false, not}
+use mathlib.Core.Bool.{Bool, true, false, not}
 use lib.Dec.{T}
 use lib.Ieee.{Float, nan, inf, fin, binary32, div, ne, isNan, nanBits, ofBits, toBits}
 use lib.Ieee.Bits.{nanBits-is, nanBits-above, is-false}
@@ -28,6 +28,13 @@ differs x e = ap isNan (differs-from-itself x (subst T (sym e) tt))
 
 pub agrees : (x : Float) → ne x x ≡ false → isNan x ≡ false
 agrees x e = is-false (isNan x) (same-no-nan x e)
+
+pub by-test : (x : Float) → ne x x ≡ isNan x
+by-test x = go (ne x x) refl
+  where
+    go : (b : Bool) → ne x x ≡ b → b ≡ isNan x
+    go true e = sym (differs x e)
+    go false e = sym (agrees x e)
 
 pub zero-by-zero : div binary32 (ofBits binary32 0) (ofBits binary32 0) ≡ nan
 unfolding div ofBits

@@ -50,3 +50,8 @@ verdictPlace (Refused refusal) = placeOf refusal
 abbrev pub verdictValue : Verdict → ℕ
 verdictValue Pass = 0
 verdictValue (Refused refusal) = valueOf refusal
+
+-- a refusal leaves the old
+abbrev pub unless : {A : Type 0} → Verdict → A → A → A
+unless Pass new old = new
+unless (Refused refusal) new old = old

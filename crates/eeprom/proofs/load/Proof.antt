@@ -10,7 +10,7 @@ use Rattle.card.specs.Card.{dataAt}
 use Rattle.card.specs.Cursor.{at}
 use Rattle.card.proofs.Said.{data-lt}
 use Rattle.offsets.specs.Offsets.{offsetScale, scaleOf, outsideAt}
-use Rattle.eeprom.specs.Load.{loadVerdict, unless}
+use Rattle.eeprom.specs.Load.{loadVerdict}
 use Rattle.eeprom.proofs.Opened.{Passed, opened, each}
 use Rattle.eeprom.proofs.Words.{words-are}
 use Rattle.eeprom.proofs.load.Statement.{statement}

@@ -1,0 +1,2 @@
+-- Steps leads to the code.
+pub mod Steps

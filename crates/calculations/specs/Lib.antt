@@ -1,0 +1,2 @@
+-- The three frame calls.
+pub mod Pixels

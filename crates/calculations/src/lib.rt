@@ -1,0 +1,182 @@
+// The three frame calls: pixels to infrared, infrared to temperature, and both in one pass.
+ghost use mathlib.Core.Path.{_≡_};
+ghost use Prim.Native.Nat.{ℕ, min, _+_, _*_, _<_, _≤_};
+ghost use lib.ListN.{length};
+ghost use Rattle.floats.specs.Floats.{whole};
+ghost use Rattle.calculations.specs.Pixels.{touched, countOf, readingAt, raw, infraredAt, infraredInto, infraredLost, answersInto, answersLost, held};
+use calibration::Calibration;
+use eeprom::Subpage;
+use formulas::CommonIrData;
+use formulas::CommonToData;
+use formulas::Less;
+use formulas::Pixel;
+use formulas::RamData;
+use formulas::Reflected;
+use formulas::Supply;
+use offsets::Offset;
+use refusal::Refusal;
+use refusal::Verdict;
+
+// What a frame answers: the ambient temperature's bits and how many pixels this call wrote as 0x7FC00000, or the refusal.
+pub enum Frame {
+    Done { t_a: u32, lost: usize },
+    Refused(Refusal),
+}
+
+fn least(a: usize, b: usize) -> usize
+    ensures { λ r. ⌜ r ≡ min a b ⌝ }
+{
+    if a < b { a } else { b }
+}
+
+// Whether the mask asks for pixel i: no byte left is as 0.
+fn masked(mask: &[u8], i: usize) -> bool
+    ensures { λ r. ⌜ r ≡ touched (now (mask .entry)) i ⌝ }
+{
+    if i < mask.len() {
+        let byte = mask[i];
+        byte != 0
+    } else {
+        false
+    }
+}
+
+// How many pixels a frame has.
+fn pixel_count(destination: usize, bytes: usize) -> usize
+    ensures { λ r. ⌜ r ≡ countOf destination bytes ⌝ }
+{
+    least(192, least(destination, bytes / 2))
+}
+
+// Pixel i's reading as a number.
+fn reading_at(pixels: &[u8], i: usize) -> f32
+    requires { ⌜ i * 2 + 1 < length (now pixels) ⌝ }
+    ensures { λ r. ⌜ r ≡ readingAt (now (pixels .entry)) i ⌝ }
+{
+    let word = util::word_at(pixels, i);
+    util::i16_from_bits(util::wide(word), 16) as f32
+}
+
+// An offset as a number.
+fn real(offset: Offset) -> f32
+    ensures { λ r. ⌜ r ≡ whole offset ⌝ }
+{
+    offset as f32
+}
+
+// Pixel i's infrared number.
+fn infrared_at(
+    common: CommonIrData,
+    term: Less,
+    pixels: &[u8],
+    offsets: &[Offset],
+    k_v: &[f32],
+    k_ta: &[f32],
+    i: usize,
+) -> f32
+    requires { ⌜ (i * 2 + 1 < length (now pixels)) × (i < length (now offsets)) × (i < length (now «k_v»)) × (i < length (now «k_ta»)) ⌝ }
+    ensures { λ r. ⌜ r ≡ infraredAt (raw common term (now (pixels .entry)) (now (offsets .entry)) (now («k_v» .entry)) (now («k_ta» .entry))) i ⌝ }
+{
+    let reading = reading_at(pixels, i);
+    let offset = real(offsets[i]);
+    let v_ir = formulas::per_pixel_v_ir(reading, common, offset, k_v[i], k_ta[i]);
+    formulas::reduced(v_ir, term)
+}
+
+// Pixels 0 to n - 1 as infrared numbers into the destination. Answers how many were not numbers.
+fn infrared_pixels(
+    common: CommonIrData,
+    term: Less,
+    mask: &[u8],
+    pixels: &[u8],
+    offsets: &[Offset],
+    k_v: &[f32],
+    k_ta: &[f32],
+    destination: &mut [u32],
+    n: usize,
+) -> usize
+    requires { ⌜ (n ≤ length (now destination)) × (n * 2 ≤ length (now pixels)) ⌝ }
+    requires { ⌜ (n ≤ length (now offsets)) × (n ≤ length (now «k_v»)) × (n ≤ length (now «k_ta»)) ⌝ }
+    ensures { λ r. ⌜ r ≡ infraredLost (now (mask .entry)) (raw common term (now (pixels .entry)) (now (offsets .entry)) (now («k_v» .entry)) (now («k_ta» .entry))) n ⌝ }
+    ensures { λ r. ⌜ now (destination .exit) ≡ infraredInto (now (mask .entry)) (raw common term (now (pixels .entry)) (now (offsets .entry)) (now («k_v» .entry)) (now («k_ta» .entry))) n (now (destination .entry)) ⌝ }
+{
+    let mut lost: usize = 0;
+    for i in 0..n {
+        if !masked(mask, i) {
+            continue;
+        }
+        let v_ir = infrared_at(common, term, pixels, offsets, k_v, k_ta, i);
+        if v_ir != v_ir {
+            destination[i] = 0x7FC0_0000;
+            lost += 1;
+            continue;
+        }
+        destination[i] = floats::to_bits(v_ir);
+    }
+    lost
+}
+
+// Pixels 0 to n - 1 of infrared numbers to temperatures, in place. Answers how many had none.
+fn temperature_pixels(
+    common: CommonToData,
+    mask: &[u8],
+    alpha: &[f32],
+    destination: &mut [u32],
+    n: usize,
+) -> usize
+    requires { ⌜ (n ≤ length (now destination)) × (n ≤ length (now alpha)) ⌝ }
+    ensures { λ r. ⌜ r ≡ answersLost (now (mask .entry)) common (now (alpha .entry)) (held (now (destination .entry))) n ⌝ }
+    ensures { λ r. ⌜ now (destination .exit) ≡ answersInto (now (mask .entry)) common (now (alpha .entry)) (held (now (destination .entry))) n (now (destination .entry)) ⌝ }
+{
+    let mut lost: usize = 0;
+    for i in 0..n {
+        if !masked(mask, i) {
+            continue;
+        }
+        let v_ir = floats::from_bits(destination[i]);
+        let answer = formulas::pixel_answer(v_ir, alpha[i], common);
+        let Pixel::Temperature(t) = answer else {
+            destination[i] = 0x7FC0_0000;
+            lost += 1;
+            continue;
+        };
+        destination[i] = floats::to_bits(t);
+    }
+    lost
+}
+
+// Pixels 0 to n - 1 as temperatures into the destination. Answers how many had none.
+fn one_pass_pixels(
+    common_ir: CommonIrData,
+    term: Less,
+    common_to: CommonToData,
+    mask: &[u8],
+    pixels: &[u8],
+    offsets: &[Offset],
+    alpha: &[f32],
+    k_v: &[f32],
+    k_ta: &[f32],
+    destination: &mut [u32],
+    n: usize,
+) -> usize
+    requires { ⌜ (n ≤ length (now destination)) × (n * 2 ≤ length (now pixels)) ⌝ }
+    requires { ⌜ (n ≤ length (now offsets)) × (n ≤ length (now alpha)) × (n ≤ length (now «k_v»)) × (n ≤ length (now «k_ta»)) ⌝ }
+    ensures { λ r. ⌜ r ≡ answersLost (now (mask .entry)) «common_to» (now (alpha .entry)) (infraredAt (raw «common_ir» term (now (pixels .entry)) (now (offsets .entry)) (now («k_v» .entry)) (now («k_ta» .entry)))) n ⌝ }
+    ensures { λ r. ⌜ now (destination .exit) ≡ answersInto (now (mask .entry)) «common_to» (now (alpha .entry)) (infraredAt (raw «common_ir» term (now (pixels .entry)) (now (offsets .entry)) (now («k_v» .entry)) (now («k_ta» .entry)))) n (now (destination .entry)) ⌝ }
+{
+    let mut lost: usize = 0;
+    for i in 0..n {
+        if !masked(mask, i) {
+            continue;
+        }
+        let v_ir = infrared_at(common_ir, term, pixels, offsets, k_v, k_ta, i);
+        let answer = formulas::pixel_answer(v_ir, alpha[i], common_to);
+        let Pixel::Temperature(t) = answer else {
+            destination[i] = 0x7FC0_0000;
+            lost += 1;
+            continue;
+        };
+        destination[i] = floats::to_bits(t);
+    }
+    lost
+}

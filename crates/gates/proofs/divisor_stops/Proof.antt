@@ -1,0 +1,70 @@
+-- `gates::divisor_stops` meets its contract: each test is one of the definition's. Assumes nothing.
+use borrow.Author.Needs.{needs}
+use mathlib.Core.Path.{_≡_, sym, ap, _∙_}
+use mathlib.Core.Bool.{true, false}
+use lib.Ieee.{Float}
+use mir.Syntax.{w16}
+use mir.Val.{toZ, ofZ}
+use Rattle.floats.specs.Floats.{whole}
+use Rattle.formulas.specs.Frame.{deltaOf, correctionOf}
+use Rattle.gates.specs.Gate.{isZero, zeroDivisor}
+use Rattle.gates.proofs.divisor_stops.Statement.{statement}
+use Rattle.gates.proofs.divisor_stops.Tie as tie
+
+k-v-dd : (c : tie.After-struct-told) → isZero (whole (toZ w16 (ofZ w16 (c .before .before .args .calibration .«k_v_dd»)))) ≡ isZero (whole (c .before .before .args .calibration .«k_v_dd»))
+k-v-dd c = search needs
+
+gain : (c : tie.After-struct-told2) → isZero (whole (toZ w16 (ofZ w16 (c .before .before .before .before .before .args .ram .gain)))) ≡ isZero (whole (c .before .before .before .before .before .args .ram .gain))
+gain c = search needs
+
+no-k-v-dd : (c : tie.Else1) → isZero (whole (c .before .before .before .args .calibration .«k_v_dd»)) ≡ false
+no-k-v-dd c = sym (k-v-dd (c .before)) ∙ c .if1 .left
+
+no-gain : (c : tie.Else2) → isZero (whole (c .before .before .before .before .before .before .args .ram .gain)) ≡ false
+no-gain c = sym (gain (c .before)) ∙ c .if2 .left
+
+correction : (c : tie.After-ptat-correction) → isZero (c .ptat-correction .result) ≡ isZero (correctionOf (c .before .before .before .before .before .before .before .before .before .before .args .calibration) (deltaOf (c .before .before .before .before .before .before .before .before .before .before .args .calibration) (c .before .before .before .before .before .before .before .before .before .before .args .ram)))
+correction c = ap isZero (c .ptat-correction .ensures ∙ ap (correctionOf (c .before .before .before .before .before .before .before .before .before .before .args .calibration)) (c .before .delta-v .ensures))
+
+returns : tie.Need-returns
+unfolding zeroDivisor
+returns c = rw (sym (k-v-dd (c .before)) ∙ c .if1 .taken)
+
+returns-2 : tie.Need-returns-2
+unfolding zeroDivisor
+returns-2 c = rw (no-k-v-dd (c .before .before .before), sym (gain (c .before)) ∙ c .if2 .taken)
+
+returns-3 : tie.Need-returns-3
+unfolding zeroDivisor
+returns-3 c = rw (no-k-v-dd (c .before .before .before .before .before), no-gain (c .before .before), c .if3 .taken)
+
+returns-4 : tie.Need-returns-4
+unfolding zeroDivisor
+returns-4 c =
+    rw (no-k-v-dd (c .before .before .before .before .before .before .before .before), no-gain (c .before .before .before .before .before), c .before .before .before .if3 .left, sym (correction (c .before)) ∙ c .if4 .taken)
+
+returns-5 : tie.Need-returns-5
+unfolding zeroDivisor
+returns-5 c =
+    rw (
+      no-k-v-dd (c .before .before .before .before .before .before .before .before .before),
+      no-gain (c .before .before .before .before .before .before),
+      c .before .before .before .before .if3 .left,
+      sym (correction (c .before .before)) ∙ c .before .if4 .left,
+      c .ptat-denominator .ensures,
+    )
+
+pub divisor-stops-spec : {M : Type 1} → statement M
+divisor-stops-spec =
+    tie.close
+    (tie.spec
+    (λ c. search needs)
+    returns
+    (λ c. search needs)
+    returns-2
+    returns-3
+    (λ c κs. search needs)
+    (λ c κs. search needs)
+    returns-4
+    (λ c κs. search needs)
+    returns-5)

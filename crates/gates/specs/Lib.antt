@@ -1,0 +1,2 @@
+-- What stops a frame.
+pub mod Gate
