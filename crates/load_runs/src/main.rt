@@ -1,9 +1,10 @@
 // Loads made images and writes a line for each: a label, the refusal's number (0 for good), its place and its value, and then what the
 // part it stands in says. The images are all zero but for the words that a case puts there.
-// The expected lines in `stdout` were not taken from this program. They come from document 01 by `cards/expect`, which has its own chip
-// code, its own rounding and its own rules for a load; the short ones are worked out by hand beside each case.
+// The expected lines in `stdout` were not taken from this program. `cards/expect` writes them from document 01, with its own chip code, its
+// own rounding and its own rules for a load.
 ghost use Prim.Native.Nat.{_<_, _≤_};
 ghost use lib.ListN.{length};
+use eeprom::Subpage;
 use hamming::Encoded;
 use libc::STDOUT_FILENO;
 use refusal::Verdict;
@@ -16,6 +17,10 @@ type Image = [u8; 1665];
 fn tab_number(n: u64) {
     io::write_all(STDOUT_FILENO, b"\t");
     io::print_decimal(STDOUT_FILENO, n);
+}
+
+fn wide(byte: u8) -> u64 {
+    byte as u64
 }
 
 // How far a number is from 0.
@@ -230,37 +235,31 @@ fn damage() {
 
 // ---- Two refusals at once: the lower number is told
 
-// The image of `size` bytes in which what is asked for is wrong: a damaged word 831, an offset scale of 15, an offset outside.
-fn two(label: &[u8], size: usize, short: u8, damage: bool, scale: bool, outside: bool)
-    requires { ⌜ size ≤ 1665 ⌝ }
+// The first `size` bytes of the image that has these bits in word 830, this offset scale and this raw offset at entry 0. Wrong are
+// the bits 3, the scale 15, and the raw offset 2 at both scales.
+fn two(label: &[u8], size: usize, short: u8, late: u16, scale: u16, raw: u16)
+    requires { ⌜ (size ≤ 1665) × (scale < 64) ⌝ }
 {
     let mut image = [0u8; 1665];
-    put_scale(&mut image, 14, 0);
-    if damage {
-        put(&mut image, 831, 3);
-    }
-    if scale {
-        put_scale(&mut image, 15, 0);
-    }
-    if outside {
-        put_data(&mut image, 64, 2);
-    }
+    put(&mut image, 830, late);
+    put_scale(&mut image, scale, 0);
+    put_data(&mut image, 64, raw);
     watched(label, &image, size, short);
 }
 
 fn pairs() {
-    two(b"1 and 2", 1663, 3, false, false, false);
-    two(b"1 and 3", 1663, 6, true, false, false);
-    two(b"1 and 4", 1663, 6, false, true, false);
-    two(b"1 and 5", 1663, 6, false, false, true);
-    two(b"2 and 3", 1664, 5, true, false, false);
-    two(b"2 and 4", 1664, 4, false, true, false);
-    two(b"2 and 5", 1664, 2, false, false, true);
-    two(b"3 and 4", 1664, 6, true, true, false);
-    two(b"3 and 5", 1664, 6, true, false, true);
-    two(b"4 and 5", 1664, 6, false, true, true);
-    two(b"1 to 5", 1663, 1, true, true, true);
-    two(b"none of 1 to 5", 1664, 6, false, false, false);
+    two(b"1 and 2", 1663, 3, 0, 14, 0);
+    two(b"1 and 3", 1663, 6, 3, 14, 0);
+    two(b"1 and 4", 1663, 6, 0, 15, 0);
+    two(b"1 and 5", 1663, 6, 0, 14, 2);
+    two(b"2 and 3", 1664, 5, 3, 14, 0);
+    two(b"2 and 4", 1664, 4, 0, 15, 0);
+    two(b"2 and 5", 1664, 2, 0, 14, 2);
+    two(b"3 and 4", 1664, 6, 3, 15, 0);
+    two(b"3 and 5", 1664, 6, 3, 14, 2);
+    two(b"4 and 5", 1664, 6, 0, 15, 2);
+    two(b"1 to 5", 1663, 1, 3, 15, 2);
+    two(b"none of 1 to 5", 1664, 6, 0, 14, 0);
 }
 
 // ---- Offsets: the answer, and the offset of an entry, which is 192 times the subpage plus the pixel
@@ -330,6 +329,8 @@ fn mended() {
     with_offset(b"mended 100", &image, 36);
 }
 
+// The label says scale, average and raw offset: the offset is average + raw × 2^scale. At scale 14 the part is 16384, -32768 or 32768, and
+// the last is outside; at scale 5 raw 1023 gives 32736, which 31 may be added to and 32 may not.
 fn offsets() {
     offset(b"14, 0, 1", 14, 0, 0, 1);
     offset(b"14, 0, -2", 14, 0, 0, 2046);
@@ -444,6 +445,63 @@ fn numbers() {
     largest_scales();
 }
 
+// ---- Readers of parts: the length of a part, and its first and last entry
+
+fn row(label: &[u8], image: &[u8], number: usize) {
+    let part = eeprom::alpha_row(image, number);
+    io::write_all(STDOUT_FILENO, label);
+    let length = part.len();
+    tab_number(length as u64);
+    if length > 0 {
+        tab_number(wide(part[0]));
+        tab_number(wide(part[length - 1]));
+    }
+    line_end();
+}
+
+// Rows 0 to 5 are words 256 to 287, and so on to 416 to 447.
+fn rows_of(image: &Image) {
+    row(b"row 0", image, 0);
+    row(b"row 1", image, 1);
+    row(b"row 5", image, 5);
+    row(b"row 6", image, 6);
+}
+
+fn rows() {
+    let mut image = [9u8; 1665];
+    put(&mut image, 256, 0x0102);
+    put(&mut image, 287, 0x0304);
+    put(&mut image, 288, 0x0506);
+    put(&mut image, 319, 0x0708);
+    put(&mut image, 416, 0x0A0B);
+    put(&mut image, 447, 0x0C0D);
+    rows_of(&image);
+    let short = [9u8; 1663];
+    row(b"row 0 of 1663 bytes", &short, 0);
+}
+
+fn subpage<'a>(label: &[u8], zero: &'a [i16], one: &'a [i16], which: Subpage) {
+    let part = eeprom::subpage_offsets(zero, one, which);
+    io::write_all(STDOUT_FILENO, label);
+    let length = part.len();
+    tab_number(length as u64);
+    if length > 0 {
+        tab_signed(part[0]);
+        tab_signed(part[length - 1]);
+    }
+    line_end();
+}
+
+fn subpages() {
+    let short = [-191i16; 191];
+    let full = [-192i16; 192];
+    let long = [200i16; 200];
+    subpage(b"subpage 0 of 192 and 200", &full, &long, Subpage::Zero);
+    subpage(b"subpage 1 of 192 and 200", &full, &long, Subpage::One);
+    subpage(b"subpage 0 of 191 and 192", &short, &full, Subpage::Zero);
+    subpage(b"subpage 1 of 191 and 192", &short, &full, Subpage::One);
+}
+
 fn main() {
     lengths();
     lengths_of_tables();
@@ -452,4 +510,6 @@ fn main() {
     pairs();
     offsets();
     numbers();
+    rows();
+    subpages();
 }
