@@ -1,0 +1,155 @@
+"""What document 01 says of a card, in Python: the chip word, and what a load answers. Written from that document alone, apart from the crates,
+to make cards and expected lines with. A number is a Fraction, or None for infinity; nothing here gives a zero below zero."""
+from fractions import Fraction
+
+WORDS = 832
+BYTES = 1664
+ENTRIES = 192
+MASKS = (0x055B, 0x066D, 0x078E, 0x07F0)
+
+
+# ---- The chip word
+
+def ones(n):
+    return bin(n).count("1")
+
+
+def encode(data):
+    assert 0 <= data <= 2047
+    word = data
+    for number, mask in enumerate(MASKS):
+        word |= ones(data & mask) % 2 << 11 + number
+    return word | ones(word) % 2 << 15
+
+
+CODEWORDS = {encode(data): data for data in range(2048)}
+
+
+def check(word):
+    """The data of a word, or None for a damaged one: codewords are tried at distance 0, then at distance 1."""
+    if word in CODEWORDS:
+        return CODEWORDS[word]
+    near = [CODEWORDS[word ^ 1 << bit] for bit in range(16) if word ^ 1 << bit in CODEWORDS]
+    assert len(near) <= 1
+    return near[0] if near else None
+
+
+def is_checked(word):
+    return not (word <= 15 or word in (19, 20))
+
+
+# ---- Fields
+
+def signed(width, n):
+    n %= 1 << width
+    return n - (1 << width) if n >> width - 1 else n
+
+
+def combined(upper, lower):
+    return upper * 32 | lower
+
+
+# ---- binary32
+
+def rounded(x):
+    """The binary32 number nearest to x, an even one between two as near."""
+    x = Fraction(x)
+    if x == 0:
+        return x
+    exponent = -126
+    while abs(x) >= Fraction(2) ** (exponent + 1):
+        exponent += 1
+    step = Fraction(2) ** (exponent - 23)
+    x = round(x / step) * step
+    return None if abs(x) >= Fraction(2) ** 128 else x
+
+
+def power(e):
+    return Fraction(2) ** e if e < 128 else None
+
+
+def over(x, e):
+    return Fraction(0) if power(e) is None else rounded(rounded(x) / power(e))
+
+
+def bits(x):
+    """The bits of a number, infinity left out."""
+    if x == 0:
+        return 0
+    exponent = -126
+    while abs(x) >= Fraction(2) ** (exponent + 1):
+        exponent += 1
+    steps = abs(x) / Fraction(2) ** (exponent - 23)
+    assert steps.denominator == 1
+    steps = int(steps)
+    magnitude = steps if steps < 1 << 23 else (exponent + 127 << 23) + steps - (1 << 23)
+    return magnitude | (1 << 31 if x < 0 else 0)
+
+
+# ---- A load
+
+def words_of(image):
+    return [image[2 * k] * 256 + image[2 * k + 1] for k in range(WORDS)]
+
+
+def data_of(image):
+    return [check(word) if is_checked(k) else 0 for k, word in enumerate(words_of(image))]
+
+
+def offset_entry(w, entry):
+    """raw × 2^scale, and its sum with the average."""
+    raw = signed(11, w[64 + entry] if entry < 192 else w[640 + entry - 192])
+    part = raw * 2 ** (w[16] >> 5)
+    return part, signed(11, combined(w[17], w[18])) + part
+
+
+def fits(z):
+    return -32768 <= z <= 32767
+
+
+def verdict(image, shortest=ENTRIES):
+    """Number, place and value."""
+    if len(image) < BYTES:
+        return 1, len(image), 0
+    if shortest < ENTRIES:
+        return 2, 0, 0
+    w = data_of(image)
+    if None in w:
+        return 3, w.index(None), words_of(image)[w.index(None)]
+    if w[16] >> 5 >= 15:
+        return 4, w[16] >> 5, 0
+    for entry in range(2 * ENTRIES):
+        if not all(fits(z) for z in offset_entry(w, entry)):
+            return 5, entry, 0
+    return 0, 0, 0
+
+
+def offset(image, entry):
+    return offset_entry(data_of(image), entry)[1]
+
+
+def alpha(image, pixel):
+    w = data_of(image)
+    row = pixel // 32
+    pair = w[25 + row // 2]
+    scale = (pair >> 5 if row % 2 == 0 else pair & 31) + 20
+    return rounded(rounded(Fraction(w[256 + pixel], 2047)) * over(w[28 + row], scale))
+
+
+def coefficient(raw, average, scales):
+    return over(rounded(rounded(raw * power(scales & 31)) + signed(11, average)), scales >> 5)
+
+
+def k_ta(image, pixel):
+    w = data_of(image)
+    return coefficient(signed(6, w[448 + pixel] >> 5), w[21], w[22])
+
+
+def k_v(image, pixel):
+    w = data_of(image)
+    return coefficient(signed(5, w[448 + pixel]), w[23], w[24])
+
+
+def alpha_cp(image):
+    w = data_of(image)
+    return over(w[45], w[46])

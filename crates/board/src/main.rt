@@ -1,0 +1,50 @@
+// Reads an image from standard input and writes what loading it answers, then how many lines that was.
+// Only the first 1,664 bytes of an image are loaded, and a length is told only where it is below that. So input of any length is
+// served by a buffer of 4,096 bytes that is read until it is full or the input ends; what follows is not read.
+use libc::STDIN_FILENO;
+use libc::STDOUT_FILENO;
+use refusal::Verdict;
+
+fn tab_number(n: u64) {
+    io::write_all(STDOUT_FILENO, b"\t");
+    io::print_decimal(STDOUT_FILENO, n);
+}
+
+fn load_line(verdict: Verdict) {
+    io::write_all(STDOUT_FILENO, b"load");
+    tab_number(verdict.number());
+    tab_number(verdict.place());
+    tab_number(verdict.value());
+    io::write_all(STDOUT_FILENO, b"\n");
+}
+
+fn end_line(lines: u64) {
+    io::write_all(STDOUT_FILENO, b"end");
+    tab_number(lines);
+    io::write_all(STDOUT_FILENO, b"\n");
+}
+
+fn run(image: &[u8]) -> Verdict {
+    let mut offsets0 = [0i16; 192];
+    let mut offsets1 = [0i16; 192];
+    let mut alpha = [0.0f32; 192];
+    let mut k_v = [0.0f32; 192];
+    let mut k_ta = [0.0f32; 192];
+    let got = eeprom::load(
+        image,
+        &mut offsets0,
+        &mut offsets1,
+        &mut alpha,
+        &mut k_v,
+        &mut k_ta,
+    );
+    got.verdict
+}
+
+fn main() {
+    let mut buffer = io::buffer();
+    let n = io::read_full(STDIN_FILENO, &mut buffer);
+    let verdict = run(&buffer[..n]);
+    load_line(verdict);
+    end_line(1);
+}
