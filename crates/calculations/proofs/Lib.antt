@@ -1,2 +1,5 @@
--- Steps leads to the code.
+-- Steps, Opened and Calls lead to the code; Single and Demand are the laws that callers cite.
 pub mod Steps
+pub mod Opened
+pub mod Calls
+pub mod Single

@@ -1,2 +1,3 @@
 -- The three frame calls.
 pub mod Pixels
+pub mod Frames

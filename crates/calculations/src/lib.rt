@@ -1,9 +1,11 @@
 // The three frame calls: pixels to infrared, infrared to temperature, and both in one pass.
 ghost use mathlib.Core.Path.{_≡_};
 ghost use Prim.Native.Nat.{ℕ, min, _+_, _*_, _<_, _≤_};
-ghost use lib.ListN.{length};
+ghost use lib.ListN.{length, getD};
+ghost use lib.Ieee.{nan};
 ghost use Rattle.floats.specs.Floats.{whole};
 ghost use Rattle.calculations.specs.Pixels.{touched, countOf, readingAt, raw, infraredAt, infraredInto, infraredLost, answersInto, answersLost, held};
+ghost use Rattle.calculations.specs.Frames.{irCall, toCall, passCall, Infrareds, Temperatures, Passes};
 use calibration::Calibration;
 use eeprom::Subpage;
 use formulas::CommonIrData;
@@ -179,4 +181,145 @@ fn one_pass_pixels(
         destination[i] = floats::to_bits(t);
     }
     lost
+}
+
+// K_sTo of the basic range.
+fn basic_k_s_to(calibration: Calibration, basic_range: usize) -> f32
+    requires { ⌜ «basic_range» < 8 ⌝ }
+    ensures { λ r. ⌜ r ≡ getD (calibration .«k_s_to») «basic_range» nan ⌝ }
+{
+    let k_s_to = calibration.k_s_to;
+    k_s_to[basic_range]
+}
+
+// Pixels to infrared numbers: into the destination, as their bits.
+pub fn raw_pixels_to_ir_data<'a>(
+    calibration: Calibration,
+    emissivity: f32,
+    supply: Supply,
+    ram: RamData,
+    subpage: Subpage,
+    offsets0: &'a [Offset],
+    offsets1: &'a [Offset],
+    k_v: &[f32],
+    k_ta: &[f32],
+    pixels: &[u8],
+    mask: &[u8],
+    destination: &mut [u32],
+) -> Frame
+    ensures { λ r. ⌜ Infrareds (irCall calibration emissivity supply ram subpage (now (offsets0 .entry)) (now (offsets1 .entry)) (now («k_v» .entry)) (now («k_ta» .entry)) (now (pixels .entry)) (now (mask .entry)))
+        (now (destination .entry)) (now (destination .exit)) r ⌝ }
+{
+    let shortest = least(
+        least(offsets0.len(), offsets1.len()),
+        least(k_v.len(), k_ta.len()),
+    );
+    let verdict = gates::infrared_gate(calibration, emissivity, ram, shortest);
+    if let Verdict::Refused(refusal) = verdict {
+        return Frame::Refused(refusal);
+    }
+    let common = formulas::common_ir_data(calibration, emissivity, supply, ram);
+    let reading = ram.compensation_pixel as f32;
+    let term = formulas::compensation_term(calibration, common, reading);
+    let offsets = eeprom::subpage_offsets(offsets0, offsets1, subpage);
+    let n = pixel_count(destination.len(), pixels.len());
+    let lost = infrared_pixels(
+        common,
+        term,
+        mask,
+        pixels,
+        offsets,
+        k_v,
+        k_ta,
+        destination,
+        n,
+    );
+    Frame::Done {
+        t_a: floats::to_bits(common.t_a),
+        lost,
+    }
+}
+
+// Infrared numbers to temperatures: in place, both as their bits. The ambient temperature is handed in, and handed back.
+pub fn raw_ir_to_temperatures(
+    calibration: Calibration,
+    emissivity: f32,
+    t_a: f32,
+    basic_range: usize,
+    reflected: Reflected,
+    alpha: &[f32],
+    mask: &[u8],
+    destination: &mut [u32],
+) -> Frame
+    ensures { λ r. ⌜ Temperatures (toCall calibration emissivity «t_a» «basic_range» reflected (now (alpha .entry)) (now (mask .entry)))
+        (now (destination .entry)) (now (destination .exit)) r ⌝ }
+{
+    let verdict = gates::temperature_gate(emissivity, basic_range, alpha.len());
+    if let Verdict::Refused(refusal) = verdict {
+        return Frame::Refused(refusal);
+    }
+    let k_s_to = basic_k_s_to(calibration, basic_range);
+    let common = formulas::common_to_data(calibration, emissivity, t_a, reflected, k_s_to);
+    let n = least(192, destination.len());
+    let lost = temperature_pixels(common, mask, alpha, destination, n);
+    Frame::Done {
+        t_a: floats::to_bits(t_a),
+        lost,
+    }
+}
+
+// Pixels to temperatures in one pass: into the destination, as their bits.
+pub fn raw_pixels_to_temperatures<'a>(
+    calibration: Calibration,
+    emissivity: f32,
+    supply: Supply,
+    ram: RamData,
+    subpage: Subpage,
+    basic_range: usize,
+    reflected: Reflected,
+    offsets0: &'a [Offset],
+    offsets1: &'a [Offset],
+    alpha: &[f32],
+    k_v: &[f32],
+    k_ta: &[f32],
+    pixels: &[u8],
+    mask: &[u8],
+    destination: &mut [u32],
+) -> Frame
+    ensures { λ r. ⌜ Passes (passCall (irCall calibration emissivity supply ram subpage (now (offsets0 .entry)) (now (offsets1 .entry)) (now («k_v» .entry)) (now («k_ta» .entry)) (now (pixels .entry)) (now (mask .entry))) «basic_range» reflected (now (alpha .entry)))
+        (now (destination .entry)) (now (destination .exit)) r ⌝ }
+{
+    let shortest = least(
+        least(offsets0.len(), offsets1.len()),
+        least(alpha.len(), least(k_v.len(), k_ta.len())),
+    );
+    let verdict = gates::one_pass_gate(calibration, emissivity, ram, basic_range, shortest);
+    if let Verdict::Refused(refusal) = verdict {
+        return Frame::Refused(refusal);
+    }
+    let common_ir = formulas::common_ir_data(calibration, emissivity, supply, ram);
+    let reading = ram.compensation_pixel as f32;
+    let term = formulas::compensation_term(calibration, common_ir, reading);
+    let k_s_to = basic_k_s_to(calibration, basic_range);
+    let t_a = common_ir.t_a;
+    let common_to = formulas::common_to_data(calibration, emissivity, t_a, reflected, k_s_to);
+    let offsets = eeprom::subpage_offsets(offsets0, offsets1, subpage);
+    let n = pixel_count(destination.len(), pixels.len());
+    let lost = one_pass_pixels(
+        common_ir,
+        term,
+        common_to,
+        mask,
+        pixels,
+        offsets,
+        alpha,
+        k_v,
+        k_ta,
+        destination,
+        n,
+    );
+    Frame::Done {
+        t_a: floats::to_bits(t_a),
+        lost,
+    }
 }

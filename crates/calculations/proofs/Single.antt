@@ -1,0 +1,15 @@
+-- Each call admits one answer: of two answers and destinations that it says of the same inputs, each part is the same. Assumes nothing.
+use Prim.Native.Nat.{ℕ}
+use mathlib.Core.Path.{_≡_, sym, _∙_}
+use mathlib.Core.List.{List}
+use Rattle.calculations.specs.declared.Frame.{Frame}
+use Rattle.calculations.specs.Frames.{IrCall, ToCall, PassCall, Infrareds, Temperatures, Passes}
+
+pub single-infrared : (f : IrCall) (d x y : List ℕ) (r q : Frame) → Infrareds f d x r → Infrareds f d y q → (r ≡ q) × (x ≡ y)
+single-infrared f d x y r q p s = (p .answer ∙ sym (s .answer), p .destination ∙ sym (s .destination))
+
+pub single-temperatures : (f : ToCall) (d x y : List ℕ) (r q : Frame) → Temperatures f d x r → Temperatures f d y q → (r ≡ q) × (x ≡ y)
+single-temperatures f d x y r q p s = (p .answer ∙ sym (s .answer), p .destination ∙ sym (s .destination))
+
+pub single-pass : (f : PassCall) (d x y : List ℕ) (r q : Frame) → Passes f d x r → Passes f d y q → (r ≡ q) × (x ≡ y)
+single-pass f d x y r q p s = (p .answer ∙ sym (s .answer), p .destination ∙ sym (s .destination))
