@@ -3,3 +3,4 @@ pub mod Steps
 pub mod Opened
 pub mod Calls
 pub mod Single
+pub mod Demand

@@ -18,7 +18,7 @@ use Rattle.formulas.specs.declared.RamData.{RamData}
 use Rattle.formulas.specs.declared.Reflected.{Reflected}
 use Rattle.formulas.specs.declared.Supply.{Supply}
 use Rattle.formulas.specs.Frame.{commonOf}
-use Rattle.formulas.specs.Pixel.{termOf, commonToOf, compensatedOf, finalOf}
+use Rattle.formulas.specs.Pixel.{termOf, commonToOf}
 use Rattle.gates.specs.Gate.{infraredVerdict, temperatureVerdict, onePassVerdict}
 use Rattle.calculations.specs.Pixels.{Raw, raw, countOf, infraredAt, infraredInto, infraredLost, answersInto, answersLost, held}
 use Rattle.calculations.specs.declared.Frame.{Frame}
@@ -143,8 +143,3 @@ pub record Passes (f : PassCall) (d d′ : List ℕ) (r : Frame) : Type 0 where
       (answersLost (f .ir .mask) (shared (onward f)) (f .alpha) (infraredAt (reads (f .ir))) (countOf (length d) (length (f .ir .pixels)))))
   pub destination : d′ ≡ unless (passVerdict f)
       (answersInto (f .ir .mask) (shared (onward f)) (f .alpha) (infraredAt (reads (f .ir))) (countOf (length d) (length (f .ir .pixels))) d) d
-
--- ---- document 01's X of a pixel: the final value under the fourth root, of its infrared number and its sensitivity
-
-unfoldable pub finalAt : CommonToData → List Float → (ℕ → Float) → ℕ → Float
-finalAt c alpha v k = finalOf (v k) (compensatedOf (getD alpha k nan) c) c

@@ -1,3 +1,4 @@
 -- The three frame calls.
 pub mod Pixels
 pub mod Frames
+pub mod Demand
