@@ -1,6 +1,6 @@
 -- From its parts, what each call says: after a refusal, and after a frame. Assumes nothing.
 use Prim.Native.Nat.{ℕ}
-use mathlib.Core.Path.{_≡_, refl, sym, ap₂, _∙_}
+use mathlib.Core.Path.{_≡_, ap₂}
 use mathlib.Core.List.{List}
 use lib.ListN.{length}
 use lib.Ieee.{binary32, toBits}

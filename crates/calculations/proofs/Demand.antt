@@ -1,13 +1,13 @@
 -- Demand 3 at the frame: where 2 ^ 32 ≤ X < 2 ^ 36 for a touched pixel, its bits hold a temperature within 1/32768 degree of the exact one,
 -- and of two such pixels, of any frames, the one of the larger X is not the colder. Assumes nothing.
-use Prim.Native.Nat.{ℕ, min, _/_, _≤_, _<_}
+use Prim.Native.Nat.{ℕ, _≤_, _<_}
 use mathlib.Core.Path.{_≡_, refl, sym, ap, _∙_, subst}
 use mathlib.Core.Bool.{Bool, true, false}
 use mathlib.Core.List.{List}
 use native.Mathlib.Omega.{arith}
 use lib.Dec.{T}
 use lib.ListN.{getD, length}
-use lib.Ieee.{Float, nan, inf, fin, binary32, fits, toBits, ofBits, isNan, le, lt}
+use lib.Ieee.{Float, nan, inf, fin, binary32, fits, ofBits, isNan, le, lt}
 use lib.Ieee.Exact.{HasValue}
 use lib.Ieee.Fits.{add-fits, sub-fits}
 use lib.Ieee.Bits.{ofBits-toBits}
@@ -20,14 +20,12 @@ use Rattle.root.specs.Demand.{Near4}
 use Rattle.root.proofs.Demand as law
 use Rattle.refusal.specs.Refusal.{unless}
 use Rattle.refusal.specs.declared.Verdict.{Verdict}
-use Rattle.refusal.specs.declared.Verdict.the-variants.{Pass}
 use Rattle.formulas.specs.declared.CommonToData.{CommonToData}
-use Rattle.formulas.specs.declared.Pixel.{Pixel}
 use Rattle.formulas.specs.declared.Pixel.the-variants.{Temperature, Lost}
-use Rattle.formulas.specs.Pixel.{decided, answerOf, temperatureOf, compensatedOf, finalOf}
+use Rattle.formulas.specs.Pixel.{answerOf, temperatureOf, finalOf}
 use Rattle.calculations.specs.declared.Frame.{Frame}
 use Rattle.calculations.specs.Pixels.{touched, countOf, infraredAt, answerAt, answersInto, bitsOf, held}
-use Rattle.calculations.specs.Frames.{ToCall, PassCall, shared, onward, reads, toVerdict, passVerdict, toCount, Temperatures, Passes}
+use Rattle.calculations.specs.Frames.{ToCall, PassCall, shared, onward, reads, toCount, Temperatures, Passes}
 use Rattle.calculations.specs.Demand.{finalAt, finalTo, finalIn, HotTo, HotPass}
 
 final-fits : (c : CommonToData) (alpha : List Float) (v : ℕ → Float) (k : ℕ) → T (fits binary32 (finalAt c alpha v k))

@@ -1,5 +1,5 @@
 -- What a gate that lets pass tells of lengths and of the range. Assumes nothing.
-use Prim.Native.Nat.{ℕ, min, _/_, _*_, _≤_, _<_}
+use Prim.Native.Nat.{ℕ, min, _≤_, _<_}
 use mathlib.Core.Path.{_≡_, refl, ap, _∙_}
 use mathlib.Core.Bool.{Bool, true, false}
 use mathlib.Core.List.{List, []}

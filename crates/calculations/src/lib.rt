@@ -1,6 +1,6 @@
 // The three frame calls: pixels to infrared, infrared to temperature, and both in one pass.
 ghost use mathlib.Core.Path.{_≡_};
-ghost use Prim.Native.Nat.{ℕ, min, _+_, _*_, _<_, _≤_};
+ghost use Prim.Native.Nat.{min, _+_, _*_, _<_, _≤_};
 ghost use lib.ListN.{length, getD};
 ghost use lib.Ieee.{nan};
 ghost use Rattle.floats.specs.Floats.{whole};
@@ -131,18 +131,18 @@ fn temperature_pixels(
     ensures { λ r. ⌜ now (destination .exit) ≡ answersInto (now (mask .entry)) common (now (alpha .entry)) (held (now (destination .entry))) n (now (destination .entry)) ⌝ }
 {
     let mut lost: usize = 0;
-    for i in 0..n {
-        if !masked(mask, i) {
+    for k in 0..n {
+        if !masked(mask, k) {
             continue;
         }
-        let v_ir = floats::from_bits(destination[i]);
-        let answer = formulas::pixel_answer(v_ir, alpha[i], common);
+        let v_ir = floats::from_bits(destination[k]);
+        let answer = formulas::pixel_answer(v_ir, alpha[k], common);
         let Pixel::Temperature(t) = answer else {
-            destination[i] = 0x7FC0_0000;
+            destination[k] = 0x7FC0_0000;
             lost += 1;
             continue;
         };
-        destination[i] = floats::to_bits(t);
+        destination[k] = floats::to_bits(t);
     }
     lost
 }
@@ -167,18 +167,18 @@ fn one_pass_pixels(
     ensures { λ r. ⌜ now (destination .exit) ≡ answersInto (now (mask .entry)) «common_to» (now (alpha .entry)) (infraredAt (raw «common_ir» term (now (pixels .entry)) (now (offsets .entry)) (now («k_v» .entry)) (now («k_ta» .entry)))) n (now (destination .entry)) ⌝ }
 {
     let mut lost: usize = 0;
-    for i in 0..n {
-        if !masked(mask, i) {
+    for p in 0..n {
+        if !masked(mask, p) {
             continue;
         }
-        let v_ir = infrared_at(common_ir, term, pixels, offsets, k_v, k_ta, i);
-        let answer = formulas::pixel_answer(v_ir, alpha[i], common_to);
+        let v_ir = infrared_at(common_ir, term, pixels, offsets, k_v, k_ta, p);
+        let answer = formulas::pixel_answer(v_ir, alpha[p], common_to);
         let Pixel::Temperature(t) = answer else {
-            destination[i] = 0x7FC0_0000;
+            destination[p] = 0x7FC0_0000;
             lost += 1;
             continue;
         };
-        destination[i] = floats::to_bits(t);
+        destination[p] = floats::to_bits(t);
     }
     lost
 }
@@ -303,7 +303,7 @@ pub fn raw_pixels_to_temperatures<'a>(
     let k_s_to = basic_k_s_to(calibration, basic_range);
     let t_a = common_ir.t_a;
     let common_to = formulas::common_to_data(calibration, emissivity, t_a, reflected, k_s_to);
-    let offsets = eeprom::subpage_offsets(offsets0, offsets1, subpage);
+    let asked = eeprom::subpage_offsets(offsets0, offsets1, subpage);
     let n = pixel_count(destination.len(), pixels.len());
     let lost = one_pass_pixels(
         common_ir,
@@ -311,7 +311,7 @@ pub fn raw_pixels_to_temperatures<'a>(
         common_to,
         mask,
         pixels,
-        offsets,
+        asked,
         alpha,
         k_v,
         k_ta,

@@ -1,7 +1,7 @@
 -- Document 01's map, words 34 to 63: each field of the record over `w`, the data of a card's words by their numbers.
 -- `signed` takes a width, `combined` an upper and a lower word, and `over` divides by a power of two. Assumes nothing.
 use Prim.Native.Nat.{ℕ, _/_, _%_, _^_}
-use mathlib.Core.List.{List, [], _∷_}
+use mathlib.Core.List.{[], _∷_}
 use lib.IntN.{ℤ, pos, negsuc, _*ℤ_}
 use lib.ListN.{replicate}
 use lib.Ieee.{Float}

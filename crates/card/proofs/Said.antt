@@ -1,7 +1,7 @@
 -- What an answer of the check tells of the word, and how large data are. Assumes nothing.
-use Prim.Native.Nat.{ℕ, zero, _%_, _<_}
-use mathlib.Core.Path.{_≡_, refl, sym, ap, _∙_, subst}
-use mathlib.Core.Bool.{Bool, true, false, not}
+use Prim.Native.Nat.{ℕ, _<_}
+use mathlib.Core.Path.{_≡_, refl, ap}
+use mathlib.Core.Bool.{Bool, true, false}
 use mathlib.Core.List.{List}
 use native.Mathlib.Nat.{mod-lt}
 use native.Mathlib.Omega.{arith}
@@ -9,12 +9,11 @@ use lib.Dec.{lit<, ltb}
 use Rattle.lists.specs.Pick.{pick}
 use Rattle.refusal.specs.declared.Refusal.{Refusal}
 use Rattle.util.specs.Words.{wordAt}
-use Rattle.hamming.specs.Word.{Said, says, damaged, isSaid, codeword, dataOf, flip, place, mended, decoded}
+use Rattle.hamming.specs.Word.{Said, says, damaged, codeword, dataOf, flip, place, mended, decoded}
 use Rattle.hamming.specs.Answer.{answerOf}
-use Rattle.hamming.specs.declared.Checked.{Checked}
 use Rattle.hamming.specs.declared.Checked.the-variants.{Data, Refused}
 use Rattle.map.specs.Map.{checked}
-use Rattle.card.specs.Card.{readAt, said, dataAt, damagedAt}
+use Rattle.card.specs.Card.{readAt, said, dataAt}
 
 -- the answer is data: the word says them
 pub told-data : (w : ℕ) (s : Said) (d : ℕ) → answerOf w s ≡ Data d → s ≡ says d

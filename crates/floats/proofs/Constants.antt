@@ -1,8 +1,7 @@
 -- Each constant is the binary32 nearest to its number, and 273.15 is 8950579 / 32768. Assumes nothing.
-use Prim.Native.Nat.{_^_}
 use mathlib.Core.Path.{refl}
 use mathlib.Core.Bool.{false}
-use lib.Ieee.{binary32, ofBits, round}
+use lib.Ieee.{ofBits, round}
 use lib.Ieee.Exact.{HasValue}
 use Rattle.lists.specs.All.{All, none, _also_}
 use Rattle.floats.specs.Constants.{Holds, constants, freezing}

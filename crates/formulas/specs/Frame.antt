@@ -1,5 +1,5 @@
 -- What is worked out once for a frame. Each operator is one f32 step, rounded once. Assumes nothing.
-use lib.IntN.{ℤ, _-ℤ_}
+use lib.IntN.{_-ℤ_}
 use lib.Ieee.{Float}
 use Rattle.floats.specs.Floats.{_⊕_, _⊖_, _⊗_, _⊘_, whole}
 use Rattle.floats.specs.Constants.{one, twentyFive, twoTo18}

@@ -59,26 +59,26 @@ fn reading_gate(calibration: Calibration, emissivity: f32, ram: RamData) -> Verd
     Verdict::Pass
 }
 
-// What stops a frame of infrared.
+// What stops a frame of infrared: `table` is the length of the shortest of its four tables.
 pub fn infrared_gate(
     calibration: Calibration,
     emissivity: f32,
     ram: RamData,
-    shortest: usize,
+    table: usize,
 ) -> Verdict
-    ensures { λ r. ⌜ r ≡ infraredVerdict calibration emissivity ram shortest ⌝ }
+    ensures { λ r. ⌜ r ≡ infraredVerdict calibration emissivity ram table ⌝ }
 {
-    if shortest < 192 {
+    if table < 192 {
         return Verdict::Refused(Refusal::ShortTable);
     }
     reading_gate(calibration, emissivity, ram)
 }
 
-// What stops a frame from infrared to temperature.
-pub fn temperature_gate(emissivity: f32, basic_range: usize, shortest: usize) -> Verdict
-    ensures { λ r. ⌜ r ≡ temperatureVerdict emissivity «basic_range» shortest ⌝ }
+// What stops a frame from infrared to temperature: `alpha` is that table's length.
+pub fn temperature_gate(emissivity: f32, basic_range: usize, alpha: usize) -> Verdict
+    ensures { λ r. ⌜ r ≡ temperatureVerdict emissivity «basic_range» alpha ⌝ }
 {
-    if shortest < 192 {
+    if alpha < 192 {
         return Verdict::Refused(Refusal::ShortTable);
     }
     if 7 < basic_range {
@@ -90,7 +90,7 @@ pub fn temperature_gate(emissivity: f32, basic_range: usize, shortest: usize) ->
     Verdict::Pass
 }
 
-// What stops a frame in one pass.
+// What stops a frame in one pass: `shortest` is the length of the shortest of its five tables.
 pub fn one_pass_gate(
     calibration: Calibration,
     emissivity: f32,

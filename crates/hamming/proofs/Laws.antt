@@ -10,7 +10,7 @@ use lib.Count.{onesIn}
 use lib.Dec.{T, eqb, leb, ltb, eqb→eq}
 use lib.ListN.{getD}
 use lib.Pow.{pow-lt}
-use borrow.Author.Tests.{eqb-true, lt-leb, le-leb, lt-ltb, ltb-true}
+use borrow.Author.Tests.{eqb-true, lt-leb, le-leb, ltb-true}
 use Rattle.lists.specs.Pick.{pick}
 use Rattle.lists.specs.First.{firstFrom}
 use Rattle.lists.proofs.First.{is-first, first-same}
@@ -19,7 +19,7 @@ use Rattle.hamming.specs.Word.{parity, encoded, codeword, dataOf, flip, 
 use Rattle.hamming.specs.Syndrome.{syndromeOf}
 use Rattle.hamming.proofs.Xor.{bit, xor-twice}
 use Rattle.hamming.proofs.Linear.{parity-lt}
-use Rattle.hamming.proofs.Codes.{syn-lt, syn-xor, syn-encoded, data-of-encoded, encoded-lt, codeword-syn}
+use Rattle.hamming.proofs.Codes.{syn-lt, syn-xor, codeword-syn}
 
 -- ---- the syndrome of one bit, and of a flip
 

@@ -1,10 +1,10 @@
 -- Parity is linear: over the exclusive or of two words it is the sum of theirs, modulo 2.
 -- Assumes nothing.
 use mathlib.Core.Path.{_≡_, refl, sym, ap, ap₂, _∙_, subst}
-use Prim.Native.Nat.{ℕ, zero, suc, _+_, _-_, _*_, _/_, _%_, _^_, _<_, _≤_}
-use native.Mathlib.Nat.{mod-lt, zero-lt-suc, le-of-suc-le-suc, not-suc-le-zero, add-mod, mod-add-mod, add-mod-mod, pow-suc, div-lt-iff-lt-mul}
+use Prim.Native.Nat.{ℕ, zero, suc, _+_, _-_, _/_, _%_, _^_, _<_}
+use native.Mathlib.Nat.{mod-lt, zero-lt-suc, add-mod, mod-add-mod, add-mod-mod, pow-suc, div-lt-iff-lt-mul}
 use native.Mathlib.Omega.{arith}
-use lib.Bits.{bitAnd, bitOr, bitXor, and-mod, xor-mod, and-shr, xor-shr}
+use lib.Bits.{bitAnd, bitXor, and-mod, xor-mod, and-shr, xor-shr}
 use lib.Count.{ones, onesIn, ones-step}
 use lib.Arith.{lt-one}
 use Rattle.hamming.specs.Word.{parity}

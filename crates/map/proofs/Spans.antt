@@ -7,11 +7,10 @@ use native.Mathlib.Nat.{le-trans, le-refl, add-zero, add-suc, suc-add}
 use native.Mathlib.Numerals.{add-one}
 use lib.ListN.{length}
 use native.Mathlib.Omega.{arith}
-use lib.Dec.{T, leb, ltb, eqb, leb→le}
+use lib.Dec.{T, leb, eqb, leb→le}
 use borrow.Author.Tests.{lt-ltb, le-ltb, eqb-true}
 use Rattle.map.specs.declared.Role.{Role}
 use Rattle.map.specs.declared.Role.the-variants.{Unchecked}
-use Rattle.lists.specs.Pick.{pick}
 use Rattle.map.specs.Map.{Span, upto, lookup, spans, roleOf}
 
 -- where the k-th field starts, ends, and what it is, in a map that starts at lo

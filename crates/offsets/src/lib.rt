@@ -1,12 +1,11 @@
 // Pixel offsets: average + raw × 2^scale, for both subpages, and the first that its type does not hold.
 ghost use mathlib.Core.Path.{_≡_};
 ghost use mathlib.Core.Bool.{false};
-ghost use Prim.Native.Nat.{ℕ, _+_, _<_, _≤_, _^_};
-ghost use lib.IntN.{pos, _+ℤ_, _*ℤ_};
+ghost use Prim.Native.Nat.{ℕ, _+_, _<_, _≤_};
+ghost use lib.IntN.{_+ℤ_};
 ghost use lib.ListN.{length};
 ghost use lib.Signed.{mag};
 ghost use Rattle.lists.specs.Written.{filled};
-ghost use Rattle.util.specs.Fields.{signed};
 ghost use Rattle.card.specs.Cursor.{at};
 ghost use Rattle.offsets.specs.Offsets.{scaleOf, wordOf, scaledOf, scaledAt, outsideAt, firstOutside, offsetAt};
 use card::Cursor;

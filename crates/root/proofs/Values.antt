@@ -7,12 +7,12 @@ use native.Mathlib.Omega.{arith}
 use native.Mathlib.Decide.{decLe}
 use lib.IntN.{pos}
 use lib.Dec.{T, leb, eqb}
-use lib.Ieee.{Float, nan, inf, fin, binary32, ofBits, toBits, ofFields, odd, nanBits, up}
+use lib.Ieee.{Float, nan, inf, fin, binary32, ofBits, toBits, ofFields, odd, up}
 use lib.Ieee.Exact.{HasValue, odd-sign}
 use lib.Ieee.Fits.{down-pos}
 use lib.Ieee.Positive.{positive, positive-of-value}
-use lib.Ieee.Bits.{toBits-ofBits, nanBits-is, nanBits-above}
-use borrow.Author.Tests.{ne-eqb, lt-leb, le-leb, le-ltb}
+use lib.Ieee.Bits.{toBits-ofBits, nanBits-is}
+use borrow.Author.Tests.{ne-eqb, lt-leb, le-leb}
 use Rattle.floats.proofs.Nan.{number-below}
 use Rattle.root.specs.Root.{field, magnitude, rootPattern, squareRoot, root}
 use Rattle.root.proofs.Magnitude.{mag-is, mag-step}

@@ -4,11 +4,10 @@ use Prim.Native.Nat.{ℕ, _+_, _/_, _%_, _^_}
 use mathlib.Core.List.{List, [], _∷_}
 use lib.Dec.{eqb}
 use lib.IntN.{ℤ, pos}
-use lib.ListN.{getD}
 use lib.Ieee.{Float}
 use Rattle.lists.specs.Pick.{pick}
 use Rattle.floats.specs.Floats.{_⊕_, _⊗_, _⊘_, whole, powerOfTwo, over}
-use Rattle.floats.specs.Constants.{plusZero, alphaFull}
+use Rattle.floats.specs.Constants.{alphaFull}
 use Rattle.util.specs.Fields.{signed}
 use Rattle.tables.specs.declared.Coefficient.{Coefficient}
 use Rattle.tables.specs.declared.Coefficient.the-variants.{KTa, KV}

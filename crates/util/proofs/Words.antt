@@ -1,6 +1,5 @@
 -- How large words and combined words are. Assumes nothing.
-use mathlib.Core.Path.{_≡_}
-use Prim.Native.Nat.{ℕ, _+_, _*_, _^_, _<_}
+use Prim.Native.Nat.{ℕ, _*_, _<_}
 use native.Mathlib.Omega.{arith}
 use lib.Bits.{or-lt}
 use Rattle.util.specs.Words.{bigEndian}

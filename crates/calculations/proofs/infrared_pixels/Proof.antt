@@ -1,13 +1,13 @@
 -- `calculations::infrared_pixels` meets its contract: each pixel is left, written, or written as the pattern and counted. Assumes nothing.
 use borrow.Author.Needs.{needs}
 use borrow.Author.Tests.{not-true, not-false}
-use mathlib.Core.Path.{_≡_, refl, sym, ap, _∙_}
-use mathlib.Core.Bool.{true, false}
+use mathlib.Core.Path.{_≡_, sym, ap, _∙_}
+use mathlib.Core.Bool.{true}
 use Prim.Native.Nat.{ℕ, _-_}
 use native.Mathlib.Omega.{arith}
-use lib.Ieee.{Float, nan, binary32, toBits, isNan}
+use lib.Ieee.{binary32, toBits, isNan}
 use Rattle.floats.proofs.Nan.{is-nan, differs, agrees, nan-bits}
-use Rattle.calculations.specs.Pixels.{Raw, raw, touched, infraredAt}
+use Rattle.calculations.specs.Pixels.{raw, touched, infraredAt}
 use Rattle.calculations.proofs.Steps as steps
 use Rattle.calculations.proofs.Steps.{Running, kept, missed, told}
 use Rattle.calculations.proofs.infrared_pixels.Statement.{statement}

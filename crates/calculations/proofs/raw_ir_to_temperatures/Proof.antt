@@ -5,7 +5,6 @@ use mathlib.Core.Path.{_≡_, sym, ap, ap₂, _∙_}
 use Prim.Native.Nat.{ℕ, _≤_, _<_}
 use native.Mathlib.Omega.{arith}
 use lib.ListN.{length}
-use lib.Ieee.{Float}
 use Rattle.formulas.specs.declared.CommonToData.{CommonToData}
 use Rattle.formulas.specs.Pixel.{commonToOf}
 use Rattle.calculations.specs.Pixels.{answersInto, answersLost, held}

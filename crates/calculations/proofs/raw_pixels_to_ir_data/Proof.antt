@@ -1,21 +1,17 @@
 -- `calculations::raw_pixels_to_ir_data` meets its contract: the gate decides; what passes is read with the frame's own numbers.
 -- Assumes nothing.
 use borrow.Author.Needs.{needs}
-use mathlib.Core.Path.{_≡_, sym, ap, ap₂, _∙_, subst}
-use mathlib.Core.List.{List}
+use mathlib.Core.Path.{_≡_, sym, ap, ap₂, _∙_}
 use Prim.Native.Nat.{ℕ, min, _≤_}
 use native.Mathlib.Omega.{arith}
-use lib.IntN.{ℤ}
 use lib.ListN.{length}
 use lib.Ieee.{Float, binary32, toBits}
 use mir.Syntax.{w16}
 use mir.Val.{toZ, ofZ}
 use Rattle.floats.specs.Floats.{whole}
-use Rattle.refusal.specs.declared.Verdict.the-variants.{Pass}
 use Rattle.formulas.specs.declared.CommonIrData.{CommonIrData}
-use Rattle.formulas.specs.declared.Less.{Less}
 use Rattle.formulas.specs.Pixel.{termOf}
-use Rattle.calculations.specs.Pixels.{Raw, raw, countOf, infraredInto, infraredLost}
+use Rattle.calculations.specs.Pixels.{Raw, raw, infraredInto, infraredLost}
 use Rattle.calculations.specs.Frames.{IrCall, irCall, common, reads, irVerdict}
 use Rattle.calculations.proofs.Opened.{infrared-opened, offsets-long}
 use Rattle.calculations.proofs.Calls.{ir-refused, ir-done}

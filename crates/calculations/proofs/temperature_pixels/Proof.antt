@@ -1,12 +1,12 @@
 -- `calculations::temperature_pixels` meets its contract: each pixel is left, written, or written as the pattern and counted. Assumes nothing.
 use borrow.Author.Needs.{needs}
 use borrow.Author.Tests.{not-true, not-false}
-use mathlib.Core.Path.{_≡_, refl, sym, ap, _∙_}
-use mathlib.Core.Bool.{true, false}
+use mathlib.Core.Path.{_≡_, sym, ap, _∙_}
+use mathlib.Core.Bool.{true}
 use Prim.Native.Nat.{ℕ, _-_}
 use native.Mathlib.Omega.{arith}
 use lib.ListN.{getD}
-use lib.Ieee.{Float, nan, binary32, toBits, ofBits}
+use lib.Ieee.{Float, nan, binary32, ofBits}
 use Rattle.lists.proofs.Written.{written-past}
 use Rattle.formulas.specs.declared.Pixel.{Pixel}
 use Rattle.formulas.specs.Pixel.{answerOf}
@@ -30,20 +30,20 @@ loop-holds c = steps.start _ _ _ _ _
 loop-again : tie.Need-loop-again Inv-loop μ-loop
 loop-again c = kept _ _ _ (c .before .before .before .loop .inv) (c .before .before .loop-test .taken) (sym (c .before .masked .ensures) ∙ not-true _ (c .if1 .taken))
 
-asked : (c : tie.Else1 Inv-loop μ-loop) → touched (c .before .before .before .before .before .before .before .args .mask .now) (c .before .before .before .loop .i) ≡ true
+asked : (c : tie.Else1 Inv-loop μ-loop) → touched (c .before .before .before .before .before .before .before .args .mask .now) (c .before .before .before .loop .k) ≡ true
 asked c = sym (c .before .masked .ensures) ∙ not-false _ (c .if1 .left)
 
 -- the pixel still holds what it held at first
 answered : (c : tie.After-pixel-answer Inv-loop μ-loop) →
     let a = c .before .before .before .before .before .before .before .before .before .before .before .args in
-    answerAt (a .common) (a .alpha .now) (held (a .destination .now)) (c .before .before .before .before .before .before .before .loop .i) ≡ c .pixel-answer .result
+    answerAt (a .common) (a .alpha .now) (held (a .destination .now)) (c .before .before .before .before .before .before .before .loop .k) ≡ c .pixel-answer .result
 unfolding answerAt
 answered c =
     let a = c .before .before .before .before .before .before .before .before .before .before .before .args in
     let l = c .before .before .before .before .before .before .before .loop in
     sym (c .pixel-answer .ensures
-    ∙ ap (λ (v : Float). answerOf v (getD (a .alpha .now) (l .i) nan) (a .common))
-    (c .before .before .from-bits .ensures ∙ ap (ofBits binary32) (ap (λ d. getD d (l .i) 0) (l .inv .list) ∙ written-past _ _ (l .i) (a .destination .now) (l .i) 0 (omega arith))))
+    ∙ ap (λ (v : Float). answerOf v (getD (a .alpha .now) (l .k) nan) (a .common))
+    (c .before .before .from-bits .ensures ∙ ap (ofBits binary32) (ap (λ d. getD d (l .k) 0) (l .inv .list) ∙ written-past _ _ (l .k) (a .destination .now) (l .k) 0 (omega arith))))
 
 loop-again-2 : tie.Need-loop-again-2 Inv-loop μ-loop
 loop-again-2 c =
@@ -58,7 +58,7 @@ loop-again-3 c =
 returns : tie.Need-returns Inv-loop μ-loop
 returns c =
     let r = c .before .loop .inv in
-    let e : c .before .loop .i ≡ c .before .before .before .before .before .args .n = omega arith in
+    let e : c .before .loop .k ≡ c .before .before .before .before .before .args .n = omega arith in
     (rw e at (r .count), rw e at (r .list))
 
 pub temperature-pixels-spec : {M : Type 1} → statement M

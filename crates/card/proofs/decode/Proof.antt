@@ -3,16 +3,14 @@ use borrow.Author.Needs.{needs}
 use mathlib.Core.Path.{_≡_, refl, sym, ap, _∙_}
 use mathlib.Core.Bool.{true, false, not}
 use mathlib.Core.List.{List}
-use Prim.Native.Nat.{ℕ, _+_, _-_, _≤_, _<_}
+use Prim.Native.Nat.{ℕ, _-_, _<_}
 use native.Mathlib.Omega.{arith}
-use lib.ListN.{set}
-use Rattle.lists.specs.Written.{filled}
 use Rattle.lists.specs.First.{firstFrom}
 use Rattle.lists.proofs.First.{found, further, ended}
 use Rattle.lists.proofs.Fill as fill
 use Rattle.lists.proofs.Fill.{Filling}
 use Rattle.util.specs.Words.{wordAt}
-use Rattle.hamming.specs.Word.{Said, says, damaged, isSaid}
+use Rattle.hamming.specs.Word.{Said, says, isSaid}
 use Rattle.card.specs.Card.{readAt, said, dataAt, damagedAt, firstDamaged}
 use Rattle.card.proofs.Said.{told-data, told-refused}
 use Rattle.card.proofs.decode.Statement.{statement}

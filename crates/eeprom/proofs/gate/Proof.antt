@@ -2,15 +2,12 @@
 -- Assumes nothing.
 use borrow.Author.Needs.{needs}
 use borrow.Author.Tests.{lt-ltb, le-ltb}
-use mathlib.Core.Path.{_≡_, refl, sym, ap, ap₂, _∙_, subst, fun-ext}
+use mathlib.Core.Path.{_≡_, sym, ap, _∙_, subst}
 use mathlib.Core.List.{List}
 use Prim.Native.Nat.{ℕ, _<_, _≤_}
 use native.Mathlib.Omega.{arith}
-use lib.ListN.{length}
 use Rattle.lists.specs.Written.{filled}
 use Rattle.lists.proofs.First.{is-first}
-use Rattle.refusal.specs.declared.Refusal.{Refusal}
-use Rattle.refusal.specs.declared.Verdict.the-variants.{Pass, Refused}
 use Rattle.card.specs.Card.{dataAt, damagedAt, firstDamaged}
 use Rattle.card.specs.Cursor.{at}
 use Rattle.eeprom.specs.Load.{offsetsVerdict, loadVerdict}

@@ -3,8 +3,7 @@ use borrow.Author.Needs.{needs}
 use borrow.Author.Tests.{lt-ltb, le-ltb, le-leb, lt-leb}
 use mathlib.Core.Path.{_≡_, ap, subst}
 use Prim.Native.Nat.{ℕ, _<_, _≤_}
-use Rattle.card.specs.Cursor.{at}
-use Rattle.offsets.specs.Offsets.{offsetScale, scaleOf, firstOutside}
+use Rattle.offsets.specs.Offsets.{offsetScale, scaleOf}
 use Rattle.offsets.specs.declared.Scale.{Scale}
 use Rattle.eeprom.specs.Load.{offsetsVerdict}
 use Rattle.eeprom.proofs.offsets_gate.Statement.{statement}

@@ -1,7 +1,7 @@
 -- `floats::to_bits` meets its contract: what differs from itself is the one not-a-number, and what does not has bits of its own.
 -- Assumes nothing.
 use borrow.Author.Needs.{needs}
-use mathlib.Core.Path.{_≡_, sym, ap, _∙_, subst}
+use mathlib.Core.Path.{sym, ap, _∙_, subst}
 use lib.Dec.{T}
 use lib.Ieee.{binary32, toBits}
 use lib.Ieee.Compare.{differs-from-itself}

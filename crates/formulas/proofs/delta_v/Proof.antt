@@ -1,6 +1,5 @@
 -- `formulas::delta_v` meets its contract: the difference is small, so no digit of it is lost. Assumes nothing.
 use borrow.Author.Needs.{needs}
-use mathlib.Core.Path.{_≡_, sym, ap, ap₂, _∙_, subst}
 use Prim.Native.Nat.{_≤_}
 use native.Mathlib.Omega.{arith}
 use lib.Dec.{T, le→leb, lt→ltb}
@@ -9,7 +8,6 @@ use lib.Ieee.{binary32, inFloat}
 use lib.Signed.{mag}
 use mir.Facts.{toZ-ofZ}
 use mir.Syntax.{w32}
-use mir.Val.{toZ, ofZ}
 use Rattle.formulas.specs.Frame.{deltaOf}
 use Rattle.formulas.proofs.delta_v.Statement.{statement}
 use Rattle.formulas.proofs.delta_v.Tie as tie

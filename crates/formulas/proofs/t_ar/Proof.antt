@@ -1,6 +1,5 @@
 -- `formulas::t_ar` meets its contract: an emissivity of 1, and any other. Assumes nothing.
 use borrow.Author.Needs.{needs}
-use borrow.Author.Tests.{eqb-true}
 use Rattle.formulas.specs.Pixel.{tArOf}
 use Rattle.formulas.proofs.t_ar.Statement.{statement}
 use Rattle.formulas.proofs.t_ar.Tie as tie

@@ -1,8 +1,7 @@
 -- `gates::divisor_stops` meets its contract: each test is one of the definition's. Assumes nothing.
 use borrow.Author.Needs.{needs}
 use mathlib.Core.Path.{_≡_, sym, ap, _∙_}
-use mathlib.Core.Bool.{true, false}
-use lib.Ieee.{Float}
+use mathlib.Core.Bool.{false}
 use mir.Syntax.{w16}
 use mir.Val.{toZ, ofZ}
 use Rattle.floats.specs.Floats.{whole}

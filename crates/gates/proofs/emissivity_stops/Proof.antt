@@ -1,10 +1,9 @@
 -- `gates::emissivity_stops` meets its contract: a zero, or a not-a-number. Assumes nothing.
-use borrow.Author.Needs.{needs}
-use mathlib.Core.Path.{_≡_, sym, ap, _∙_}
+use mathlib.Core.Path.{sym, ap, _∙_}
 use mathlib.Core.Bool.{Bool, _||_}
-use lib.Ieee.{ne, isNan}
+use lib.Ieee.{isNan}
 use Rattle.floats.proofs.Nan.{by-test}
-use Rattle.gates.specs.Gate.{isZero, badEmissivity}
+use Rattle.gates.specs.Gate.{badEmissivity}
 use Rattle.gates.proofs.emissivity_stops.Statement.{statement}
 use Rattle.gates.proofs.emissivity_stops.Tie as tie
 

@@ -1,6 +1,6 @@
 -- `gates::reading_gate` meets its contract: each return is one line of the definition. Assumes nothing.
 use borrow.Author.Needs.{needs}
-use mathlib.Core.Path.{sym, ap, ap₂, _∙_}
+use mathlib.Core.Path.{sym, _∙_}
 use Rattle.gates.specs.Gate.{readingVerdict}
 use Rattle.gates.proofs.reading_gate.Statement.{statement}
 use Rattle.gates.proofs.reading_gate.Tie as tie

@@ -1,10 +1,7 @@
 -- `gates::supply_stops` meets its contract: the difference is exact, and judged. Assumes nothing.
 use borrow.Author.Needs.{needs}
-use mathlib.Core.Path.{ap, _∙_}
-use mathlib.Core.Bool.{not}
 use mir.Facts.{toZ-ofZ}
 use mir.Syntax.{w32}
-use Rattle.util.specs.Fields.{inI16}
 use Rattle.gates.specs.Gate.{supplyOutside}
 use Rattle.gates.proofs.supply_stops.Statement.{statement}
 use Rattle.gates.proofs.supply_stops.Tie as tie

@@ -1,6 +1,6 @@
 -- `offsets::fill_offsets` meets its contract: entry after entry, none of them outside. Assumes nothing.
 use borrow.Author.Needs.{needs, sfits-of}
-use mathlib.Core.Path.{_≡_, _∙_}
+use mathlib.Core.Path.{_∙_}
 use Prim.Native.Nat.{ℕ, _+_, _-_}
 use native.Mathlib.Omega.{arith}
 use mir.Syntax.{w16}

@@ -1,7 +1,6 @@
 -- `offsets::first_outside` meets its contract. At each turn no entry before this one is outside. Assumes nothing.
-use borrow.Author.Needs.{needs}
 use mathlib.Core.Path.{_≡_, refl, sym, _∙_}
-use Prim.Native.Nat.{ℕ, _-_, _≤_}
+use Prim.Native.Nat.{_-_, _≤_}
 use native.Mathlib.Omega.{arith}
 use Rattle.lists.specs.First.{firstFrom}
 use Rattle.lists.proofs.First.{found, further, ended}

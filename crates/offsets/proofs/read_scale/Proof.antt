@@ -1,7 +1,7 @@
 -- `offsets::read_scale` meets its contract: the cursor stands at words 16, 17 and 18. Assumes nothing.
 use borrow.Author.Needs.{needs}
 use mathlib.Core.Path.{_≡_, sym, ap, ap₂, _∙_, subst}
-use Prim.Native.Nat.{ℕ, _<_}
+use Prim.Native.Nat.{_<_}
 use lib.Dec.{lit<}
 use lib.IntN.{ℤ}
 use mir.Syntax.{w16}

@@ -1,7 +1,6 @@
 -- `tables::raw_of` meets its contract, for each coefficient. Assumes nothing.
 use borrow.Author.Needs.{needs}
-use mathlib.Core.Path.{_≡_, sym, ap, _∙_}
-use lib.IntN.{ℤ}
+use mathlib.Core.Path.{sym, ap, _∙_}
 use mir.Facts.{toZ-ofZ}
 use mir.Syntax.{w16}
 use Rattle.util.specs.Fields.{signed}

@@ -4,7 +4,7 @@ use mathlib.Core.Path.{_≡_, sym, ap, _∙_, subst}
 use Prim.Native.Nat.{ℕ, _+_, _<_}
 use lib.Dec.{lit<, lit≤}
 use Rattle.util.proofs.Width.{signed-back}
-use Rattle.card.specs.Cursor.{at, signedAt, partsAt}
+use Rattle.card.specs.Cursor.{signedAt, partsAt}
 use Rattle.card.specs.declared.Signed.{Signed}
 use Rattle.tables.specs.declared.Coefficient.{Coefficient}
 use Rattle.tables.specs.declared.Coefficient.the-variants.{KTa, KV}
