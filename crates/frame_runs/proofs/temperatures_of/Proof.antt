@@ -1,0 +1,22 @@
+-- `frame_runs::temperatures_of` is safe: the part that it lends ends within the destination. Assumes nothing.
+use mathlib.Core.Path.{sym}
+use native.Mathlib.Omega.{arith}
+use lib.Seq.{length-take-le}
+use borrow.Author.Needs.{needs}
+use Rattle.frame_runs.proofs.temperatures_of.Statement.{statement}
+use Rattle.frame_runs.proofs.temperatures_of.Tie as tie
+
+pub temperatures-of-spec : {M : Type 1} → statement M
+temperatures-of-spec =
+    tie.close
+    (tie.spec
+    (λ c κs. search needs)
+    (λ c κs. search needs)
+    (λ c κs. search needs)
+    (λ c κs. search needs)
+    (λ c κs. search needs)
+    (λ c. search needs)
+    (λ c. sym (length-take-le _ _ (omega arith)))
+    (λ c κs. search needs)
+    (λ c. search needs)
+    (λ c. search needs))
