@@ -9,6 +9,7 @@ use lib.ListN.{length}
 use lib.Ieee.{Float}
 use Rattle.floats.specs.Constants.{plusZero}
 use Rattle.lists.specs.Pick.{pick}
+use Rattle.refusal.specs.declared.Refusal.{Refusal}
 use Rattle.refusal.specs.Refusal.{numberOf, placeOf, valueOf, verdictNumber, verdictPlace, verdictValue}
 use Rattle.hamming.specs.declared.Encoded.{Encoded}
 use Rattle.hamming.specs.declared.Encoded.the-variants as Encoded
@@ -27,13 +28,16 @@ use Rattle.capi.specs.declared.Record.{Record}
 use Rattle.capi.specs.declared.Load.{Load}
 use Rattle.capi.specs.declared.Flagged.{Flagged}
 
+abbrev pub refusedWord : Refusal → Word
+refusedWord r = record { number = numberOf r; place = placeOf r; value = valueOf r; word = 0 }
+
 abbrev pub encodedOut : Encoded → Word
 encodedOut (Encoded.Word w) = record { number = 0; place = 0; value = 0; word = w }
-encodedOut (Encoded.Refused r) = record { number = numberOf r; place = placeOf r; value = valueOf r; word = 0 }
+encodedOut (Encoded.Refused r) = refusedWord r
 
 abbrev pub checkedOut : Checked → Word
 checkedOut (Checked.Data d) = record { number = 0; place = 0; value = 0; word = d }
-checkedOut (Checked.Refused r) = record { number = numberOf r; place = placeOf r; value = valueOf r; word = 0 }
+checkedOut (Checked.Refused r) = refusedWord r
 
 -- no gradient is the flag 0, and the coefficient +0
 abbrev pub gradientOut : Gradient → Flagged

@@ -5,12 +5,13 @@ ghost use lib.ListN.{take, drop};
 ghost use Rattle.root.specs.Root.{root};
 ghost use Rattle.hamming.specs.Answer.{encodeAnswer, checkAnswer};
 ghost use Rattle.eeprom.specs.Parts.{rowOf, offsetsOf};
-ghost use Rattle.capi.specs.Border.{encodedOut, checkedOut, subpageOf, gradientOut, recordOut, rowPlace, offsetsPlace, Loading};
+ghost use Rattle.capi.specs.Border.{refusedWord, encodedOut, checkedOut, subpageOf, gradientOut, recordOut, rowPlace, offsetsPlace, Loading};
 use calibration::Calibration;
 use calibration::Gradient;
 use eeprom::Subpage;
 use hamming::Checked;
 use hamming::Encoded;
+use refusal::Refusal;
 
 // A chip word's answer: number, place and value of the refusal, all 0 for none; and the word or its data, 0 after a refusal.
 #[repr(C)]
@@ -74,6 +75,18 @@ pub extern "C" fn loamchalice_root(x: f32) -> u32
     floats::to_bits(root::fourth_root(x))
 }
 
+// A refusal in place of a chip word.
+fn refused_word(refusal: Refusal) -> Word
+    ensures { λ r. ⌜ r ≡ refusedWord refusal ⌝ }
+{
+    Word {
+        number: refusal.number(),
+        place: refusal.place(),
+        value: refusal.value(),
+        word: 0,
+    }
+}
+
 // The chip word of 11 bits of data. Refusal 9.
 #[no_mangle]
 pub extern "C" fn loamchalice_encode(data: u16) -> Word
@@ -87,12 +100,7 @@ pub extern "C" fn loamchalice_encode(data: u16) -> Word
             value: 0,
             word,
         },
-        Encoded::Refused(refusal) => Word {
-            number: refusal.number(),
-            place: refusal.place(),
-            value: refusal.value(),
-            word: 0,
-        },
+        Encoded::Refused(refusal) => refused_word(refusal),
     }
 }
 
@@ -109,12 +117,7 @@ pub extern "C" fn loamchalice_check(word: u16) -> Word
             value: 0,
             word: data,
         },
-        Checked::Refused(refusal) => Word {
-            number: refusal.number(),
-            place: refusal.place(),
-            value: refusal.value(),
-            word: 0,
-        },
+        Checked::Refused(refusal) => refused_word(refusal),
     }
 }
 

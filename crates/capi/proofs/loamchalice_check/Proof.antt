@@ -8,24 +8,7 @@ returns : tie.Need-returns
 returns c = rw (sym (c .before .before .before .check .ensures), c .before .answer .given .1)
 
 returns-2 : tie.Need-returns-2
-returns-2 c =
-    rw (
-      c .before .before .number .ensures,
-      c .before .place .ensures,
-      c .value .ensures,
-      sym (c .before .before .before .before .before .before .check .ensures),
-      c .before .before .before .before .answer2 .given .1,
-    )
+returns-2 c = rw (c .refused-word .ensures, sym (c .before .before .before .before .check .ensures), c .before .before .answer2 .given .1)
 
 pub loamchalice-check-spec : {M : Type 1} → statement M
-loamchalice-check-spec =
-    tie.close
-    (tie.spec
-    (λ c κs. search needs)
-    (λ c. search needs)
-    (λ c. search needs)
-    (λ c κs. search needs)
-    (λ c κs. search needs)
-    (λ c κs. search needs)
-    returns
-    returns-2)
+loamchalice-check-spec = tie.close (tie.spec (λ c κs. search needs) (λ c. search needs) (λ c. search needs) (λ c κs. search needs) returns returns-2)
