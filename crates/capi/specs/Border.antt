@@ -22,6 +22,14 @@ use Rattle.eeprom.specs.declared.Loaded.{Loaded}
 use Rattle.eeprom.specs.declared.Subpage.{Subpage}
 use Rattle.eeprom.specs.declared.Subpage.the-variants.{Zero, One}
 use Rattle.eeprom.specs.Load.{Loads}
+use Rattle.formulas.specs.declared.RamData.{RamData}
+use Rattle.formulas.specs.declared.Reflected.{Reflected}
+use Rattle.formulas.specs.declared.Reflected.the-variants.{Given, Ambient}
+use Rattle.formulas.specs.declared.Supply.{Supply}
+use Rattle.calculations.specs.declared.Frame.{Frame}
+use Rattle.calculations.specs.declared.Frame.the-variants.{Done, Refused}
+use Rattle.capi.specs.declared.Answer.{Answer}
+use Rattle.capi.specs.declared.Ram.{Ram}
 use Rattle.capi.specs.declared.Word.{Word}
 use Rattle.capi.specs.declared.Part.{Part}
 use Rattle.capi.specs.declared.Record.{Record}
@@ -92,3 +100,58 @@ rowPlace image row =
 -- the offsets are the first entries of their table
 abbrev pub offsetsPlace : List ℤ → Part
 offsetsPlace part = record { start = 0; length = length part }
+
+-- ---- frames: what C hands in
+
+-- the flag 0 is no gradient
+abbrev pub gradientIn : ℕ → Float → Gradient
+gradientIn has g = pick (eqb has 0) Missing (Coefficient g)
+
+abbrev pub recordIn : Record → Calibration
+recordIn c = record {
+  «k_v_dd» = c .«k_v_dd»;
+  «v_dd_25» = c .«v_dd_25»;
+  resolution = c .resolution;
+  «k_v_ptat» = c .«k_v_ptat»;
+  «k_t_ptat» = c .«k_t_ptat»;
+  «v_ptat_25» = c .«v_ptat_25»;
+  «alpha_ptat» = c .«alpha_ptat»;
+  gain = c .gain;
+  «k_s_ta» = c .«k_s_ta»;
+  «corner_temperatures» = c .«corner_temperatures»;
+  «k_s_to» = c .«k_s_to»;
+  emissivity = c .emissivity;
+  «alpha_cp» = c .«alpha_cp»;
+  «offset_reference_cp» = c .«offset_reference_cp»;
+  «k_v_cp» = c .«k_v_cp»;
+  «k_ta_cp» = c .«k_ta_cp»;
+  «temperature_gradient_coefficient» = gradientIn (c .«has_gradient») (c .gradient);
+}
+
+abbrev pub ramIn : Ram → RamData
+ramIn m = record {
+  «t_a_v_be» = m .«t_a_v_be»;
+  «t_a_ptat» = m .«t_a_ptat»;
+  «v_dd_pixel» = m .«v_dd_pixel»;
+  gain = m .gain;
+  «compensation_pixel» = m .«compensation_pixel»;
+}
+
+abbrev pub supplyIn : Float → Float → Supply
+supplyIn correction nominal = record { «resolution_correction» = correction; «v_dd_0» = nominal }
+
+-- the flag 0 is the ambient temperature less the number
+abbrev pub reflectedIn : ℕ → Float → Reflected
+reflectedIn given x = pick (eqb given 0) (Ambient x) (Given x)
+
+-- ---- and gets
+
+abbrev pub frameOut : Frame → Answer
+frameOut (Done tA n) = record { number = 0; place = 0; value = 0; lost = n; «t_a» = tA }
+frameOut (Refused r) = record { number = numberOf r; place = placeOf r; value = valueOf r; lost = 0; «t_a» = 0 }
+
+-- an inner call keeps its promise with some answer, and C has that answer
+pub record Carried (promise : Frame → Type 0) (r : Answer) : Type 0 where
+  pub inner : Frame
+  pub kept : promise inner
+  pub out : r ≡ frameOut inner
