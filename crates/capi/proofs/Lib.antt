@@ -1,0 +1,2 @@
+-- Rows leads to the code of the row reader.
+mod Rows
