@@ -1,6 +1,6 @@
-// Runs the three frame calls and writes a line for each run: the call and a label, the refusal's number (0 for good) and its place, the bits
-// of t_a and how many pixels were lost (both 0 after a refusal), and then the destination: how many of its 200 entries have the bits that
-// it was filled with, and entries 0, 1, 190, 191 and 192.
+// Runs the three frame calls and writes a line for each run: the call and a label, the number that the label speaks of (0 for none), the
+// refusal's number (0 for good) and its place, the bits of t_a and how many pixels were lost (both 0 after a refusal), and then the
+// destination: how many of its 200 entries have the bits that it was filled with, and entries 0, 1, 190, 191 and 192.
 // The expected lines in `stdout` were not taken from this program. `cards/expect_frames` writes them from document 01, with its own
 // rounding, its own formulas and its own rules for a frame.
 ghost use Prim.Native.Nat.{_≤_};
@@ -16,6 +16,8 @@ use libc::STDOUT_FILENO;
 // What a run asks for, and what it lends. Of a mask of 200 bytes, of 400 pixel bytes and of a destination of 200 entries it lends the
 // first so many.
 struct Ask {
+    // the number that the label speaks of
+    case: u64,
     emissivity: f32,
     // 0, or else 1
     subpage: u8,
@@ -41,6 +43,7 @@ struct Ask {
 // The first two are 40 and -12.5.
 fn usual() -> Ask {
     Ask {
+        case: 0,
         emissivity: 0.9375,
         subpage: 0,
         range: 1,
@@ -230,11 +233,12 @@ fn kept(destination: &[u32; 200], rest: u32) -> u64 {
     n
 }
 
-fn line(call: &[u8], label: &[u8], frame: Frame, destination: &[u32; 200], rest: u32) {
+fn line(call: &[u8], label: &[u8], ask: Ask, frame: Frame, destination: &[u32; 200]) {
     io::write_all(STDOUT_FILENO, call);
     io::write_all(STDOUT_FILENO, label);
+    tab_number(ask.case);
     answer(frame);
-    tab_number(kept(destination, rest));
+    tab_number(kept(destination, ask.rest));
     tab_bits(destination[0]);
     tab_bits(destination[1]);
     tab_bits(destination[190]);
@@ -378,14 +382,14 @@ fn infrared_on<'a>(
         &mask,
         &mut destination,
     );
-    line(b"infrared, ", label, frame, &destination, ask.rest);
+    line(b"infrared, ", label, ask, frame, &destination);
 }
 
 fn temperatures_on(label: &[u8], calibration: Calibration, ask: Ask, alpha: &[f32; 200]) {
     let mask = mask_of(ask);
     let mut destination = before(ask);
     let frame = temperatures_of(calibration, ask, alpha, &mask, &mut destination);
-    line(b"temperatures, ", label, frame, &destination, ask.rest);
+    line(b"temperatures, ", label, ask, frame, &destination);
 }
 
 fn pass_on<'a>(
@@ -415,7 +419,7 @@ fn pass_on<'a>(
         &mask,
         &mut destination,
     );
-    line(b"one pass, ", label, frame, &destination, ask.rest);
+    line(b"one pass, ", label, ask, frame, &destination);
 }
 
 // ---- The calls, on the tables above
@@ -509,24 +513,18 @@ fn gradients() {
     );
 }
 
-fn in_range(label: &[u8], range: usize) {
+fn in_range(range: usize) {
     let mut ask = usual();
     ask.range = range;
-    pass(label, sound(), room(), ask);
-    temperatures(label, sound(), ask);
+    ask.case = range as u64;
+    pass(b"range", sound(), room(), ask);
+    temperatures(b"range", sound(), ask);
 }
 
 fn ranges() {
-    in_range(b"range 0", 0);
-    in_range(b"range 1", 1);
-    in_range(b"range 2", 2);
-    in_range(b"range 3", 3);
-    in_range(b"range 4", 4);
-    in_range(b"range 5", 5);
-    in_range(b"range 6", 6);
-    in_range(b"range 7", 7);
-    in_range(b"range 8", 8);
-    in_range(b"range 1000", 1000);
+    for range in 0..10usize {
+        in_range(range);
+    }
 }
 
 // ---- A final value of 2^32, whose root is 256: alpha is 1, K_sTo is 0 and both temperatures are -273.15
@@ -552,9 +550,7 @@ fn known_roots() {
 
 // ---- The all-zero card, with its own tables
 
-fn wiped_range<'a>(
-    label: &[u8],
-    range: usize,
+fn wiped_ranges<'a>(
     calibration: Calibration,
     offsets0: &'a [i16; 200],
     offsets1: &'a [i16; 200],
@@ -562,46 +558,46 @@ fn wiped_range<'a>(
     k_v: &[f32; 200],
     k_ta: &[f32; 200],
 ) {
-    let mut ram = room();
-    ram.v_dd_pixel = 0;
-    let mut ask = usual();
-    ask.range = range;
-    pass_on(
-        label,
-        calibration,
-        ram,
-        ask,
-        offsets0,
-        offsets1,
-        alpha,
-        k_v,
-        k_ta,
-    );
-    temperatures_on(label, calibration, ask, alpha);
+    for range in 0..9usize {
+        let mut ask = usual();
+        ask.range = range;
+        ask.case = range as u64;
+        pass_on(
+            b"all zero, range",
+            calibration,
+            supplying(0),
+            ask,
+            offsets0,
+            offsets1,
+            alpha,
+            k_v,
+            k_ta,
+        );
+    }
 }
 
-fn wiped_infrared<'a>(
+fn wiped<'a>(
     calibration: Calibration,
     offsets0: &'a [i16; 200],
     offsets1: &'a [i16; 200],
+    alpha: &[f32; 200],
     k_v: &[f32; 200],
     k_ta: &[f32; 200],
 ) {
-    let mut ram = room();
-    ram.v_dd_pixel = 0;
     infrared_on(
         b"all zero",
         calibration,
-        ram,
+        supplying(0),
         usual(),
         offsets0,
         offsets1,
         k_v,
         k_ta,
     );
+    temperatures_on(b"all zero", calibration, usual(), alpha);
 }
 
-fn wiped(label: &[u8], range: usize) {
+fn all_zero() {
     let image = [0u8; 1664];
     let mut offsets0 = [77i16; 200];
     let mut offsets1 = [77i16; 200];
@@ -617,39 +613,17 @@ fn wiped(label: &[u8], range: usize) {
         &mut k_ta,
     );
     let record = got.calibration;
-    if range == 0 {
-        wiped_infrared(record, &offsets0, &offsets1, &k_v, &k_ta);
-    }
-    wiped_range(
-        label,
-        range,
-        record,
-        &offsets0,
-        &offsets1,
-        &alpha,
-        &k_v,
-        &k_ta,
-    );
-}
-
-fn all_zero() {
-    wiped(b"all zero, range 0", 0);
-    wiped(b"all zero, range 1", 1);
-    wiped(b"all zero, range 2", 2);
-    wiped(b"all zero, range 3", 3);
-    wiped(b"all zero, range 4", 4);
-    wiped(b"all zero, range 5", 5);
-    wiped(b"all zero, range 6", 6);
-    wiped(b"all zero, range 7", 7);
-    wiped(b"all zero, range 8", 8);
+    wiped(record, &offsets0, &offsets1, &alpha, &k_v, &k_ta);
+    wiped_ranges(record, &offsets0, &offsets1, &alpha, &k_v, &k_ta);
 }
 
 // ---- Lengths
 
-fn mask_length(label: &[u8], n: usize) {
+fn mask_length(n: usize) {
     let mut ask = usual();
+    ask.case = n as u64;
     ask.mask_length = n;
-    sound_calls(label, ask);
+    sound_calls(b"mask length", ask);
 }
 
 fn mask_bytes(label: &[u8], first: u8, rest: u8) {
@@ -660,67 +634,67 @@ fn mask_bytes(label: &[u8], first: u8, rest: u8) {
 }
 
 fn masks() {
-    mask_length(b"mask of 0", 0);
-    mask_length(b"mask of 1", 1);
-    mask_length(b"mask of 2", 2);
-    mask_length(b"mask of 191", 191);
-    mask_length(b"mask of 200", 200);
+    mask_length(0);
+    mask_length(1);
+    mask_length(2);
+    mask_length(191);
+    mask_length(200);
     mask_bytes(b"mask 0, 1", 0, 1);
     mask_bytes(b"mask 2, 0", 2, 0);
     mask_bytes(b"mask 0, 255", 0, 255);
     mask_bytes(b"mask 0, 0", 0, 0);
 }
 
-fn pixel_bytes(label: &[u8], n: usize) {
+fn pixel_bytes(n: usize) {
     let mut ask = usual();
+    ask.case = n as u64;
     ask.bytes = n;
-    pixel_calls(label, sound(), room(), ask);
+    pixel_calls(b"pixel bytes", sound(), room(), ask);
 }
 
 fn lengths_of_pixels() {
-    pixel_bytes(b"0 bytes", 0);
-    pixel_bytes(b"1 byte", 1);
-    pixel_bytes(b"2 bytes", 2);
-    pixel_bytes(b"3 bytes", 3);
-    pixel_bytes(b"383 bytes", 383);
-    pixel_bytes(b"384 bytes", 384);
-    pixel_bytes(b"400 bytes", 400);
+    pixel_bytes(0);
+    pixel_bytes(1);
+    pixel_bytes(2);
+    pixel_bytes(3);
+    pixel_bytes(383);
+    pixel_bytes(384);
+    pixel_bytes(400);
 }
 
-fn entries(label: &[u8], n: usize) {
+fn entries(n: usize) {
     let mut ask = usual();
+    ask.case = n as u64;
     ask.mask_length = 200;
     ask.bytes = 400;
     ask.entries = n;
-    sound_calls(label, ask);
+    sound_calls(b"entries", ask);
 }
 
 fn lengths_of_destinations() {
-    entries(b"0 entries", 0);
-    entries(b"1 entry", 1);
-    entries(b"191 entries", 191);
-    entries(b"192 entries", 192);
-    entries(b"200 entries", 200);
+    entries(0);
+    entries(1);
+    entries(191);
+    entries(192);
+    entries(200);
 }
 
-fn short_table(label: &[u8], short: u8, subpage: u8) {
+// The tables are numbered as a call takes them: offsets of both subpages, alpha, K_V, K_Ta.
+fn short_table(short: u8) {
     let mut ask = usual();
+    ask.case = short as u64;
     ask.short = short;
-    ask.subpage = subpage;
-    sound_calls(label, ask);
+    sound_calls(b"short table", ask);
+    ask.subpage = 1;
+    pixel_calls(b"short table, subpage 1", sound(), room(), ask);
 }
 
 fn lengths_of_tables() {
-    short_table(b"191 offsets 0", 1, 0);
-    short_table(b"191 offsets 0, subpage 1", 1, 1);
-    short_table(b"191 offsets 1", 2, 0);
-    short_table(b"191 offsets 1, subpage 1", 2, 1);
-    short_table(b"191 alpha", 3, 0);
-    short_table(b"191 alpha, subpage 1", 3, 1);
-    short_table(b"191 K_V", 4, 0);
-    short_table(b"191 K_V, subpage 1", 4, 1);
-    short_table(b"191 K_Ta", 5, 0);
-    short_table(b"191 K_Ta, subpage 1", 5, 1);
+    short_table(1);
+    short_table(2);
+    short_table(3);
+    short_table(4);
+    short_table(5);
 }
 
 // ---- Not-a-numbers: what was there before, and what is handed in
@@ -735,10 +709,11 @@ fn patterns(label: &[u8], first: u8, rest: u8) {
     sound_calls(label, ask);
 }
 
-fn ambient(label: &[u8], bits: u32) {
+fn ambient(bits: u32) {
     let mut ask = usual();
+    ask.case = bits as u64;
     ask.t_a = floats::from_bits(bits);
-    temperatures(label, sound(), ask);
+    temperatures(b"t_a", sound(), ask);
 }
 
 fn not_numbers() {
@@ -746,10 +721,10 @@ fn not_numbers() {
     patterns(b"patterns, 0 left", 0, 1);
     patterns(b"patterns, 0 asked", 1, 0);
     patterns(b"patterns asked", 1, 1);
-    ambient(b"t_a 0x7F800001", 0x7F80_0001);
-    ambient(b"t_a infinite", 0x7F80_0000);
-    ambient(b"t_a -infinite", 0xFF80_0000);
-    ambient(b"t_a -0", 0x8000_0000);
+    ambient(0x7F80_0001);
+    ambient(0x7F80_0000);
+    ambient(0xFF80_0000);
+    ambient(0x8000_0000);
 }
 
 // ---- Refusals 7 and 8
@@ -766,92 +741,56 @@ fn supplying(v_dd_pixel: i16) -> RamData {
     ram
 }
 
+fn supply_bound(label: &[u8], v_dd_25: i16, v_dd_pixel: i16) {
+    pixel_calls(label, supplied(v_dd_25), supplying(v_dd_pixel), usual());
+}
+
 fn supplies() {
-    pixel_calls(
-        b"V_DD25 32736, pixel -32",
-        supplied(32736),
-        supplying(-32),
-        usual(),
-    );
-    pixel_calls(
-        b"V_DD25 32736, pixel -33",
-        supplied(32736),
-        supplying(-33),
-        usual(),
-    );
-    pixel_calls(
-        b"V_DD25 -32, pixel 32735",
-        supplied(-32),
-        supplying(32735),
-        usual(),
-    );
-    pixel_calls(
-        b"V_DD25 -32, pixel 32736",
-        supplied(-32),
-        supplying(32736),
-        usual(),
-    );
+    supply_bound(b"V_DD25 32736, pixel -32", 32736, -32);
+    supply_bound(b"V_DD25 32736, pixel -33", 32736, -33);
+    supply_bound(b"V_DD25 -32, pixel 32735", -32, 32735);
+    supply_bound(b"V_DD25 -32, pixel 32736", -32, 32736);
 }
 
-fn emissivity(label: &[u8], bits: u32) {
+fn emissivity(bits: u32) {
     let mut ask = usual();
+    ask.case = bits as u64;
     ask.emissivity = floats::from_bits(bits);
-    sound_calls(label, ask);
+    sound_calls(b"emissivity", ask);
 }
 
+// Both zeros, not a number, 1, -1, both infinities and the least number.
 fn emissivities() {
-    emissivity(b"emissivity 0", 0);
-    emissivity(b"emissivity -0", 0x8000_0000);
-    emissivity(b"emissivity 0xFFC00001", 0xFFC0_0001);
-    emissivity(b"emissivity 1", 0x3F80_0000);
-    emissivity(b"emissivity -1", 0xBF80_0000);
-    emissivity(b"emissivity infinite", 0x7F80_0000);
-    emissivity(b"emissivity -infinite", 0xFF80_0000);
-    emissivity(b"emissivity 2^-149", 1);
+    emissivity(0);
+    emissivity(0x8000_0000);
+    emissivity(0xFFC0_0001);
+    emissivity(0x3F80_0000);
+    emissivity(0xBF80_0000);
+    emissivity(0x7F80_0000);
+    emissivity(0xFF80_0000);
+    emissivity(1);
 }
 
-fn zero_k_v_dd() {
+// The supply reading gives a delta of -1, unless K_VDD is 0.
+fn divisor(label: &[u8], k_v_dd: i16, k_t_ptat: f32, k_v_ptat: f32, gain: i16, v_be: i16) {
     let mut record = sound();
-    record.k_v_dd = 0;
-    all_calls(b"K_VDD 0", record, room(), usual());
-}
-
-fn zero_k_t_ptat() {
-    let mut record = sound();
-    record.k_t_ptat = 0.0;
-    all_calls(b"K_TPTAT 0", record, room(), usual());
-}
-
-fn zero_gain() {
-    let mut ram = room();
-    ram.gain = 0;
-    all_calls(b"RAM gain 0", sound(), ram, usual());
-}
-
-// Delta is -1.
-fn zero_correction() {
-    let mut record = sound();
-    record.k_v_ptat = 1.0;
-    all_calls(b"correction 0", record, supplying(-9952), usual());
-    record.k_v_ptat = -1.0;
-    all_calls(b"correction 2", record, supplying(-9952), usual());
-}
-
-fn zero_denominator() {
-    let mut ram = room();
-    ram.t_a_ptat = 1000;
-    ram.t_a_v_be = -9000;
-    all_calls(b"PTAT denominator 0", sound(), ram, usual());
-    ram.t_a_v_be = -9001;
-    all_calls(b"PTAT denominator -1", sound(), ram, usual());
+    record.k_v_dd = k_v_dd;
+    record.k_t_ptat = k_t_ptat;
+    record.k_v_ptat = k_v_ptat;
+    let mut ram = supplying(-9952);
+    ram.gain = gain;
+    ram.t_a_v_be = v_be;
+    all_calls(label, record, ram, usual());
 }
 
 fn divisors() {
-    zero_k_v_dd();
-    zero_gain();
-    zero_k_t_ptat();
-    zero_correction();
-    zero_denominator();
+    divisor(b"no zero", -3104, 42.25, 0.5, 6391, 19442);
+    divisor(b"K_VDD 0", 0, 42.25, 0.5, 6391, 19442);
+    divisor(b"RAM gain 0", -3104, 42.25, 0.5, 0, 19442);
+    divisor(b"K_TPTAT 0", -3104, 0.0, 0.5, 6391, 19442);
+    divisor(b"correction 0", -3104, 42.25, 1.0, 6391, 19442);
+    divisor(b"PTAT denominator 0", -3104, 42.25, 0.5, 6391, -15399);
+    divisor(b"PTAT denominator -1", -3104, 42.25, 0.5, 6391, -15400);
 }
 
 // ---- Two refusals at once: the lower number is told. Wrong are a short table, range 8, pixel -33 and emissivity 0
