@@ -376,7 +376,7 @@ pub extern "C" fn loamchalice_raw_pixels_to_ir_data<'a>(
     };
     let words = ram_in(ram);
     let which = subpage_of(subpage);
-    let frame = calculations::raw_pixels_to_ir_data(
+    let infrared = calculations::raw_pixels_to_ir_data(
         inner,
         emissivity,
         supply,
@@ -390,7 +390,7 @@ pub extern "C" fn loamchalice_raw_pixels_to_ir_data<'a>(
         mask,
         destination,
     );
-    frame_out(frame)
+    frame_out(infrared)
 }
 
 // Infrared numbers to temperatures, in place, both as their bits. Refusals 2, 6, 8; after one the destination is as before.
@@ -411,7 +411,7 @@ pub extern "C" fn loamchalice_raw_ir_to_temperatures(
 {
     let inner = record_in(calibration);
     let source = reflected_in(reflected_given, reflected);
-    let frame = calculations::raw_ir_to_temperatures(
+    let temperatures = calculations::raw_ir_to_temperatures(
         inner,
         emissivity,
         t_a,
@@ -421,7 +421,7 @@ pub extern "C" fn loamchalice_raw_ir_to_temperatures(
         mask,
         destination,
     );
-    frame_out(frame)
+    frame_out(temperatures)
 }
 
 // Pixels to temperatures in one pass, into the destination as their bits. Refusals 2, 6, 7, 8; after one the destination is as before.
@@ -456,7 +456,7 @@ pub extern "C" fn loamchalice_raw_pixels_to_temperatures<'a>(
     let words = ram_in(ram);
     let which = subpage_of(subpage);
     let source = reflected_in(reflected_given, reflected);
-    let frame = calculations::raw_pixels_to_temperatures(
+    let passed = calculations::raw_pixels_to_temperatures(
         inner,
         emissivity,
         supply,
@@ -473,5 +473,5 @@ pub extern "C" fn loamchalice_raw_pixels_to_temperatures<'a>(
         mask,
         destination,
     );
-    frame_out(frame)
+    frame_out(passed)
 }

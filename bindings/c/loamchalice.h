@@ -1,0 +1,117 @@
+/* Loamchalice for C: a chip card of the MLX90641 to a calibration, and its frames to infrared numbers and temperatures.
+ *
+ * A slice is a pointer and a count of entries. Nothing is kept between calls, and there is no heap. The only misuse that leads anywhere
+ * undefined is a wrong pointer or count, or two slices that overlap where one of them is written.
+ *
+ * Each answer has `number`, `place` and `value`: all 0, or the refusal that stopped the call before it wrote anything.
+ *   1  the image is below 1,664 bytes                        place: its length
+ *   2  a table that the call takes has fewer than 192 entries
+ *   3  a chip word is damaged                                place: the word's number, value: its bits
+ *   4  the offset scale is 15 or more                        place: the scale
+ *   5  an offset is outside 16 bits                          place: 192 times the subpage plus the pixel
+ *   6  the basic range is above 7                            place: the range
+ *   7  v_dd_pixel - V_DD25 is outside 16 bits
+ *   8  a divisor is zero, or the emissivity is zero or not a number
+ *   9  data to encode is above 2047                          place: the data
+ *
+ * Pixels are floats lent as their bits, uint32_t: the same size and alignment as float. Every not-a-number that a call writes is 0x7FC00000. */
+#ifndef LOAMCHALICE_H
+#define LOAMCHALICE_H
+
+#include <stddef.h>
+#include <stdint.h>
+
+#ifdef __cplusplus
+extern "C" {
+#endif
+
+#define LOAMCHALICE_IMAGE_BYTES 1664
+#define LOAMCHALICE_PIXELS 192
+#define LOAMCHALICE_NOT_A_NUMBER 0x7FC00000u
+
+typedef struct {
+    uint64_t number, place, value;
+    uint16_t word; /* the chip word, or its data; 0 after a refusal */
+} loamchalice_word;
+
+typedef struct {
+    size_t start, length;
+} loamchalice_part;
+
+/* The calibration record, all zero after a refusal. Where has_gradient is 0 there is no gradient, and the coefficient is not looked at. */
+typedef struct {
+    float k_v_ptat, k_t_ptat, v_ptat_25, alpha_ptat, gain, k_s_ta, emissivity, alpha_cp, k_v_cp, k_ta_cp, gradient;
+    float k_s_to[8];
+    int16_t corner_temperatures[8];
+    int16_t k_v_dd, v_dd_25, offset_reference_cp;
+    uint8_t resolution, has_gradient;
+} loamchalice_record;
+
+typedef struct {
+    uint64_t number, place, value;
+    loamchalice_record calibration;
+} loamchalice_loaded;
+
+/* What a frame reads from the camera's RAM beside its pixels. */
+typedef struct {
+    int16_t t_a_v_be, t_a_ptat, v_dd_pixel, gain, compensation_pixel;
+} loamchalice_ram;
+
+typedef struct {
+    uint64_t number, place, value;
+    size_t lost;  /* pixels that this call wrote as not a number; 0 after a refusal */
+    uint32_t t_a; /* the bits of the ambient temperature; 0 after a refusal */
+} loamchalice_answer;
+
+/* The chip word of 11 bits of data. Refusal 9. */
+loamchalice_word loamchalice_encode(uint16_t data);
+
+/* The data of a chip word, mended where one bit is flipped. Refusal 3, at place 0. */
+loamchalice_word loamchalice_check(uint16_t word);
+
+/* The fourth root of x, as its bits: two square roots, each the nearest float. */
+uint32_t loamchalice_root(float x);
+
+/* Loads a card into five tables of 192 entries or more; entries past 192 stay. Refusals 1 to 5. */
+loamchalice_loaded loamchalice_load(
+    const uint8_t *image, size_t image_length,
+    int16_t *offsets0, size_t offsets0_length, int16_t *offsets1, size_t offsets1_length,
+    float *alpha, size_t alpha_length, float *k_v, size_t k_v_length, float *k_ta, size_t k_ta_length);
+
+/* Where the 64 bytes of a row of alpha, 0 to 5, stand in the image; 0 and 0 for a higher row or a short image. Refuses nothing. */
+loamchalice_part loamchalice_alpha_row(const uint8_t *image, size_t image_length, size_t row);
+
+/* Where the offsets of a subpage stand in its own table: its first 192, or none if it is shorter. Subpage 0 is the first table, any other
+ * number the second. Refuses nothing. */
+loamchalice_part loamchalice_subpage_offsets(const int16_t *zero, size_t zero_length, const int16_t *one, size_t one_length, uint8_t subpage);
+
+/* Pixels, two bytes each and the upper first, to infrared numbers. Mask byte i belongs to pixel i: 0, or no byte left, leaves it.
+ * At most 192 pixels, the destination's length, and half the pixel bytes. Refusals 2, 7, 8. */
+loamchalice_answer loamchalice_raw_pixels_to_ir_data(
+    loamchalice_record calibration, float emissivity, float resolution_correction, float v_dd_0, loamchalice_ram ram, uint8_t subpage,
+    const int16_t *offsets0, size_t offsets0_length, const int16_t *offsets1, size_t offsets1_length,
+    const float *k_v, size_t k_v_length, const float *k_ta, size_t k_ta_length,
+    const uint8_t *pixels, size_t pixels_length, const uint8_t *mask, size_t mask_length,
+    uint32_t *destination, size_t destination_length);
+
+/* Infrared numbers to temperatures, in place. `reflected` is the reflected temperature where reflected_given is not 0, else the self-heating
+ * that the ambient temperature loses. Refusals 2, 6, 8 (for the emissivity only). */
+loamchalice_answer loamchalice_raw_ir_to_temperatures(
+    loamchalice_record calibration, float emissivity, float t_a, size_t basic_range, uint8_t reflected_given, float reflected,
+    const float *alpha, size_t alpha_length, const uint8_t *mask, size_t mask_length,
+    uint32_t *destination, size_t destination_length);
+
+/* Pixels to temperatures in one pass. Refusals 2, 6, 7, 8. */
+loamchalice_answer loamchalice_raw_pixels_to_temperatures(
+    loamchalice_record calibration, float emissivity, float resolution_correction, float v_dd_0, loamchalice_ram ram, uint8_t subpage,
+    size_t basic_range, uint8_t reflected_given, float reflected,
+    const int16_t *offsets0, size_t offsets0_length, const int16_t *offsets1, size_t offsets1_length,
+    const float *alpha, size_t alpha_length, const float *k_v, size_t k_v_length, const float *k_ta, size_t k_ta_length,
+    const uint8_t *pixels, size_t pixels_length, const uint8_t *mask, size_t mask_length,
+    uint32_t *destination, size_t destination_length);
+
+#ifdef __cplusplus
+}
+#endif
+
+#endif

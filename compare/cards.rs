@@ -1,0 +1,454 @@
+//! Cards: the record and the tables against the crate as published, refusals against document 01 and the crate's errors and panics.
+use crate::document::{self, Code, Verdict};
+use crate::library::{self, Load, Record, Tables};
+use crate::numbers::Numbers;
+use crate::tally::{of_crate, progress, Tally};
+use mlx9064x::error::LibraryError;
+use mlx9064x::mlx90641::Mlx90641Calibration;
+use mlx9064x::{CalibrationData, Subpage};
+
+pub type Data = [u16; 832];
+
+/// The data of cards/sound.bin.
+pub fn sound() -> Data {
+    let image = include_bytes!("../cards/sound.bin");
+    let code = Code::new();
+    let mut data = [0; 832];
+    for (k, slot) in data.iter_mut().enumerate() {
+        *slot = code.check(u16::from(image[2 * k]) * 256 + u16::from(image[2 * k + 1])).unwrap_or(0);
+    }
+    data
+}
+
+pub fn image_of(data: &Data) -> Vec<u8> {
+    data.iter().flat_map(|d| document::encode(d % 2048).to_be_bytes()).collect()
+}
+
+fn bits11(z: i32) -> u16 {
+    z.rem_euclid(2048) as u16
+}
+
+/// A card such as a factory may write: the sound one with every field moved.
+pub fn realistic(n: &mut Numbers) -> Data {
+    let mut w = sound();
+    w[16] = (n.below(5) as u16) << 5 | n.below(32) as u16;
+    let average = n.between(-400, 400);
+    (w[17], w[18]) = (bits11(average) >> 5, bits11(average) & 31);
+    w[21] = bits11(n.between(10, 120));
+    w[22] = (n.between(10, 15) as u16) << 5 | n.below(4) as u16;
+    w[23] = bits11(n.between(200, 600));
+    w[24] = (n.between(8, 12) as u16) << 5 | n.below(5) as u16;
+    for k in 25..28 {
+        w[k] = (n.between(9, 14) as u16) << 5 | n.between(9, 14) as u16;
+    }
+    for k in 28..34 {
+        w[k] = n.between(900, 2047) as u16;
+    }
+    w[34] = bits11(n.between(-100, 100));
+    w[35] = bits11(n.between(400, 512));
+    let gain = n.between(5000, 9000) as u16;
+    (w[36], w[37]) = (gain >> 5, gain & 31);
+    w[38] = bits11(n.between(-450, -350));
+    w[39] = bits11(n.between(-120, -70));
+    let v_ptat = n.between(11000, 13500) as u16;
+    (w[40], w[41]) = (v_ptat >> 5, v_ptat & 31);
+    w[42] = bits11(n.between(300, 380));
+    w[43] = bits11(n.between(5, 40));
+    w[44] = n.between(1000, 1300) as u16;
+    w[45] = n.between(900, 1600) as u16;
+    w[46] = n.between(35, 40) as u16;
+    let cp = (n.between(-300, 50) as i16) as u16;
+    (w[47], w[48]) = (cp >> 5, cp & 31);
+    w[49] = (n.between(10, 14) as u16) << 6 | n.below(64) as u16;
+    w[50] = (n.between(4, 8) as u16) << 6 | n.below(64) as u16;
+    w[51] = (n.below(4) as u16) << 9 | (n.between(-64, 64).rem_euclid(512)) as u16;
+    w[52] = n.between(15, 19) as u16;
+    for k in 53..64 {
+        w[k] = if k >= 58 && k % 2 == 0 { n.between(130, 800) as u16 } else { bits11(n.between(-200, 50)) };
+    }
+    for k in (64..256).chain(640..832) {
+        w[k] = bits11(n.between(-60, 60));
+    }
+    for k in 256..448 {
+        w[k] = n.between(1200, 2047) as u16;
+    }
+    for k in 448..640 {
+        w[k] = n.below(2048) as u16;
+    }
+    w
+}
+
+// Scales, averages and raw offsets at and around their limits.
+fn boundary(n: &mut Numbers) -> Data {
+    let mut w = if n.one_in(2) { realistic(n) } else { [0; 832] };
+    let scale = n.between(0, 18).min(63) as u16;
+    w[16] = (if n.one_in(8) { n.below(64) as u16 } else { scale }) << 5 | n.below(32) as u16;
+    let average = n.pick(&[0, -1, 1, -1024, 1023, -1023, 1022, 512, -512]);
+    (w[17], w[18]) = (bits11(average) >> 5, bits11(average) & 31);
+    if n.one_in(4) {
+        (w[17], w[18]) = (n.below(2048) as u16, n.below(2048) as u16);
+    }
+    let power = 1i32 << (w[16] >> 5).min(14);
+    let average = document::signed(11, w[17] * 32 | w[18]);
+    for _ in 0..n.between(0, 6) {
+        let limit = n.pick(&[32767, -32768]) - if n.one_in(2) { average } else { 0 };
+        let raw = (limit / power + n.between(-2, 2)).clamp(-1024, 1023);
+        w[n.pick(&[64, 65, 100, 254, 255, 640, 641, 700, 830, 831])] = bits11(raw);
+    }
+    for k in 25..28 {
+        w[k] = n.pick(&[0, 31, 32, 2016, 2047, 0x3FF]);
+    }
+    for k in 28..34 {
+        w[k] = n.pick(&[0, 1, 2046, 2047]);
+    }
+    for k in [46, 52] {
+        w[k] = n.pick(&[0, 1, 23, 125, 126, 127, 128, 129, 148, 149, 150, 151, 1023, 1024, 2047]);
+    }
+    for k in [22, 24] {
+        w[k] = n.pick(&[0, 31, 2016, 2047, 0x1F, 0x3F]);
+    }
+    for k in [21, 23, 34, 35, 38, 39, 42, 43, 44, 45, 49, 50, 51, 53, 57, 58, 59, 63] {
+        if n.one_in(2) {
+            w[k] = n.pick(&[0, 1, 31, 32, 63, 255, 256, 511, 512, 1023, 1024, 1025, 1056, 2047]);
+        }
+    }
+    for k in [36, 37, 40, 41, 47, 48] {
+        if n.one_in(2) {
+            w[k] = n.pick(&[0, 1, 31, 32, 33, 1024, 2047]);
+        }
+    }
+    for k in 256..640 {
+        if n.one_in(3) {
+            w[k] = n.pick(&[0, 1, 15, 16, 31, 1008, 1023, 1024, 2046, 2047]);
+        }
+    }
+    w
+}
+
+fn anything(n: &mut Numbers) -> Data {
+    let mut w = [0; 832];
+    for slot in w.iter_mut() {
+        *slot = n.below(2048) as u16;
+    }
+    if !n.one_in(8) {
+        w[16] = w[16] % 32 | (n.below(6) as u16) << 5;
+    }
+    w
+}
+
+fn flip(n: &mut Numbers, image: &mut [u8], word: usize, flips: usize) {
+    let mut left: Vec<usize> = (0..16).collect();
+    for _ in 0..flips {
+        let bit = left.swap_remove(n.below(left.len()));
+        image[2 * word + bit / 8] ^= 1 << (bit % 8);
+    }
+}
+
+fn made(n: &mut Numbers) -> (&'static str, Vec<u8>) {
+    let data = match n.below(8) {
+        0..=2 => realistic(n),
+        3..=5 => boundary(n),
+        _ => anything(n),
+    };
+    let mut image = image_of(&data);
+    match n.below(16) {
+        0..=4 => ("encoded", image),
+        5 | 6 => {
+            for _ in 0..n.between(1, 40) {
+                let word = n.below(832);
+                flip(n, &mut image, word, 1);
+            }
+            // Twice the same word may make two flips or none: the document's verdict knows.
+            ("one flip in some words", image)
+        }
+        7 | 8 => {
+            for _ in 0..n.between(1, 3) {
+                let word = n.below(832);
+                flip(n, &mut image, word, 2);
+            }
+            ("two flips in some words", image)
+        }
+        9 | 10 => {
+            for _ in 0..n.between(1, 3) {
+                let word = n.below(832);
+                flip(n, &mut image, word, 3);
+            }
+            ("three flips in some words", image)
+        }
+        11 => {
+            image.truncate(if n.one_in(2) { n.between(1600, 1663) as usize } else { n.below(1664) });
+            ("short", image)
+        }
+        12 => {
+            let more = n.between(1, 700);
+            image.extend((0..more).map(|_| n.next() as u8));
+            ("long", image)
+        }
+        13 => {
+            for k in (0..16).chain([19, 20]) {
+                image[2 * k] = n.next() as u8;
+                image[2 * k + 1] = n.next() as u8;
+            }
+            ("unchecked words of any bits", image)
+        }
+        14 => {
+            // Random bytes that are chip words as far as `upto`, so that the first damage may stand anywhere.
+            let upto = n.below(833);
+            for byte in image[2 * upto..].iter_mut() {
+                *byte = n.next() as u8;
+            }
+            ("random from some word on", image)
+        }
+        _ => match n.below(4) {
+            0 => ("wiped to 0x00", vec![0; 1664 + n.below(3)]),
+            1 => ("wiped to 0xFF", vec![0xFF; 1664 + n.below(3)]),
+            2 => ("random bytes", (0..1664).map(|_| n.next() as u8).collect()),
+            _ => ("one byte repeated", vec![n.next() as u8; 1664]),
+        },
+    }
+}
+
+pub fn blank_tables(n: &mut Numbers) -> Tables {
+    let length = |n: &mut Numbers| 192 + if n.one_in(4) { n.below(5) } else { 0 };
+    let real = |n: &mut Numbers| (0..length(n)).map(|k| f32::from_bits(0x7FA0_0000 + k as u32)).collect::<Vec<f32>>();
+    let (alpha, k_v, k_ta) = (real(n), real(n), real(n));
+    let offsets = [0, 1].map(|s| (0..192 + if n.one_in(4) { n.below(5) } else { 0 }).map(|k| (k * 2 + s) as i16).collect());
+    Tables { offsets, alpha, k_v, k_ta }
+}
+
+pub fn same(of_crate: f32, of_library: f32) -> bool {
+    if of_crate.is_nan() {
+        of_library.to_bits() == 0x7FC0_0000
+    } else {
+        of_crate.to_bits() == of_library.to_bits()
+    }
+}
+
+fn bits(values: &[f32]) -> Vec<u32> {
+    values.iter().map(|x| x.to_bits()).collect()
+}
+
+fn unchanged(before: &Tables, after: &Tables, from: usize) -> bool {
+    before.offsets.iter().zip(&after.offsets).all(|(b, a)| b[from.min(b.len())..] == a[from.min(a.len())..] && a.len() == b.len())
+        && [(&before.alpha, &after.alpha), (&before.k_v, &after.k_v), (&before.k_ta, &after.k_ta)]
+            .iter()
+            .all(|(b, a)| bits(&b[from.min(b.len())..]) == bits(&a[from.min(a.len())..]))
+}
+
+// The first field or entry in which a good load differs from the crate's.
+fn difference(c: &Mlx90641Calibration, r: &Record, t: &Tables) -> Option<String> {
+    let whole = [
+        ("k_v_dd", c.k_v_dd(), r.k_v_dd),
+        ("v_dd_25", c.v_dd_25(), r.v_dd_25),
+        ("resolution", i16::from(c.resolution()), i16::from(r.resolution)),
+        ("offset_reference_cp", c.offset_reference_cp(Subpage::Zero), r.offset_reference_cp),
+    ];
+    let single = [
+        ("v_dd_0", c.v_dd_0(), 3.3),
+        ("k_v_ptat", c.k_v_ptat(), r.k_v_ptat),
+        ("k_t_ptat", c.k_t_ptat(), r.k_t_ptat),
+        ("v_ptat_25", c.v_ptat_25(), r.v_ptat_25),
+        ("alpha_ptat", c.alpha_ptat(), r.alpha_ptat),
+        ("gain", c.gain(), r.gain),
+        ("k_s_ta", c.k_s_ta(), r.k_s_ta),
+        ("emissivity", c.emissivity().unwrap_or(f32::NAN), r.emissivity),
+        ("alpha_cp", c.alpha_cp(Subpage::Zero), r.alpha_cp),
+        ("k_v_cp", c.k_v_cp(Subpage::Zero), r.k_v_cp),
+        ("k_ta_cp", c.k_ta_cp(Subpage::Zero), r.k_ta_cp),
+        ("gradient", c.temperature_gradient_coefficient().unwrap_or(f32::NAN), r.gradient),
+    ];
+    for (name, a, b) in whole {
+        if a != b {
+            return Some(format!("{name}: crate {a}, library {b}"));
+        }
+    }
+    if r.has_gradient != 1 {
+        return Some(format!("has_gradient {}", r.has_gradient));
+    }
+    if c.corner_temperatures() != r.corner_temperatures {
+        return Some(format!("corners: crate {:?}, library {:?}", c.corner_temperatures(), r.corner_temperatures));
+    }
+    let listed = c.k_s_to().iter().zip(&r.k_s_to).map(|(a, b)| ("k_s_to", *a, *b));
+    let alpha = c.alpha_pixels(Subpage::Zero).zip(&t.alpha).map(|(a, b)| ("alpha", *a, *b));
+    let k_v = c.k_v_pixels(Subpage::One).zip(&t.k_v).map(|(a, b)| ("k_v", *a, *b));
+    let k_ta = c.k_ta_pixels(Subpage::One).zip(&t.k_ta).map(|(a, b)| ("k_ta", *a, *b));
+    for (k, (name, a, b)) in single.into_iter().chain(listed).chain(alpha).chain(k_v).chain(k_ta).enumerate() {
+        if !same(a, b) {
+            return Some(format!("{name} (number {k}): crate {a:?} 0x{:08X}, library {b:?} 0x{:08X}", a.to_bits(), b.to_bits()));
+        }
+    }
+    for (s, subpage) in [Subpage::Zero, Subpage::One].into_iter().enumerate() {
+        for (k, (a, b)) in c.offset_reference_pixels(subpage).zip(&t.offsets[s]).enumerate() {
+            if a != b {
+                return Some(format!("offset {k} of subpage {s}: crate {a}, library {b}"));
+            }
+        }
+        if c.offset_reference_pixels(subpage).len() != 192 {
+            return Some("the crate has no 192 offsets".to_string());
+        }
+    }
+    None
+}
+
+fn all_zero(r: &Record) -> bool {
+    let floats = [r.k_v_ptat, r.k_t_ptat, r.v_ptat_25, r.alpha_ptat, r.gain, r.k_s_ta, r.emissivity, r.alpha_cp, r.k_v_cp, r.k_ta_cp, r.gradient];
+    floats.iter().chain(&r.k_s_to).all(|x| x.to_bits() == 0)
+        && r.corner_temperatures == [0; 8]
+        && (r.k_v_dd, r.v_dd_25, r.offset_reference_cp, r.resolution, r.has_gradient) == (0, 0, 0, 0, 0)
+}
+
+// What the crate did, and whether it fits the verdict. It reads on from word 16 and stops at what it meets first: a panic in its own
+// arithmetic comes before damage only where the offsets that panic stand before the damaged word.
+fn fits(code: &Code, image: &[u8], verdict: Verdict, answer: &Option<Result<Mlx90641Calibration, LibraryError>>) -> (bool, &'static str) {
+    match (verdict.0, answer) {
+        (0, Some(Ok(_))) => (true, "crate good"),
+        (2, _) => (true, "crate not asked: it has no such tables"),
+        (1, Some(Err(LibraryError::Checksum(_)))) => (true, "crate error: damage before the end"),
+        (1, None) => (true, "crate panics"),
+        (3, Some(Err(LibraryError::Checksum(bits)))) => (u64::from(*bits) == verdict.2, "crate error with the same bits"),
+        (3, None) => (panics_before(code, image, verdict.1 as usize), "crate panics at offsets before the damage"),
+        (4 | 5, None) => (true, "crate panics"),
+        _ => (false, "crate otherwise"),
+    }
+}
+
+fn panics_before(code: &Code, image: &[u8], damaged: usize) -> bool {
+    let mut image = image[..1664].to_vec();
+    for k in damaged..832 {
+        image[2 * k] = 0;
+        image[2 * k + 1] = 0;
+    }
+    match code.load(&image, 192) {
+        (4, _, _) => damaged >= 64,
+        (5, entry, _) => damaged > if entry < 192 { 64 + entry as usize } else { 640 + entry as usize - 192 },
+        _ => false,
+    }
+}
+
+fn judge(tally: &mut Tally, code: &Code, class: &str, image: &[u8], before: &Tables, label: &str) {
+    let mut after = before.clone();
+    let loaded: Load = library::load(image, &mut after);
+    let verdict = code.load(image, before.shortest());
+    let answer = if verdict.0 == 2 { None } else { of_crate(|| Mlx90641Calibration::from_data(image)) };
+    let (as_expected, did) = fits(code, image, verdict, &answer);
+    let number = verdict.0;
+    tally.count(&format!("cards, {class}"));
+    tally.count(&format!("cards, verdict {number}, {did}"));
+    if !as_expected {
+        tally.disagree(|| format!("{label}, {class}: document {verdict:?}, {did}"));
+    }
+    if (loaded.number, loaded.place, loaded.value) != verdict {
+        tally.disagree(|| format!("{label}, {class}: document {verdict:?}, library {:?}", (loaded.number, loaded.place, loaded.value)));
+        return;
+    }
+    if !unchanged(before, &after, if number == 0 { 192 } else { 0 }) {
+        tally.disagree(|| format!("{label}, {class}: verdict {verdict:?}, an entry changed that must stay"));
+    }
+    if number != 0 {
+        if !all_zero(&loaded.calibration) {
+            tally.disagree(|| format!("{label}, {class}: a refusal with a record {:?}", loaded.calibration));
+        }
+        return;
+    }
+    if let Some(Ok(c)) = &answer {
+        if let Some(what) = difference(c, &loaded.calibration, &after) {
+            tally.disagree(|| format!("{label}, {class}: {what}"));
+        }
+        let odd = after.alpha[..192].iter().chain(&after.k_v[..192]).chain(&after.k_ta[..192]).filter(|x| !x.is_finite()).count();
+        tally.add("card entries that are infinite or not a number", odd as u64);
+    }
+}
+
+// One image at each length, each word damaged alone, each flip of some words, each scale, and all pairs of faults.
+fn in_order(tally: &mut Tally, code: &Code, n: &mut Numbers) {
+    let good = image_of(&sound());
+    let tables = blank_tables(n);
+    for length in (0..1664).chain([1664, 1665, 5000]) {
+        let mut image = good.clone();
+        image.resize(length, 0xFF);
+        judge(tally, code, "each length", &image, &tables, &format!("length {length}"));
+    }
+    for k in 0..832 {
+        for flips in [0x0001u16, 0x8000, 0x0003, 0x8001, 0x0007, 0xFFFF] {
+            let mut image = good.clone();
+            image[2 * k] ^= (flips >> 8) as u8;
+            image[2 * k + 1] ^= flips as u8;
+            judge(tally, code, "each word flipped", &image, &tables, &format!("word {k} ^ 0x{flips:04X}"));
+        }
+    }
+    for scale in 0..64 {
+        for average in [0, 1, -1, 1023, -1024] {
+            for raw in [0, 1, -1, 2, -2, 1023, -1024] {
+                for place in [64, 255, 640, 831] {
+                    let mut data = sound();
+                    for k in (64..256).chain(640..832) {
+                        data[k] = 0;
+                    }
+                    data[16] = scale << 5;
+                    (data[17], data[18]) = (bits11(average) >> 5, bits11(average) & 31);
+                    data[place] = bits11(raw);
+                    let label = format!("scale {scale}, average {average}, raw {raw} at word {place}");
+                    judge(tally, code, "each offset scale", &image_of(&data), &tables, &label);
+                }
+            }
+        }
+    }
+    for scales in 0..2048 {
+        let mut data = sound();
+        for k in [22, 24, 25, 26, 27, 46, 49, 50, 51, 52] {
+            data[k] = scales;
+        }
+        judge(tally, code, "each scale word", &image_of(&data), &tables, &format!("scale words {scales}"));
+    }
+    faults_in_pairs(tally, code, &good, &tables);
+}
+
+fn faults_in_pairs(tally: &mut Tally, code: &Code, good: &[u8], tables: &Tables) {
+    let put = |image: &mut Vec<u8>, word: usize, bits: u16| {
+        if image.len() >= 2 * word + 2 {
+            image[2 * word..2 * word + 2].copy_from_slice(&bits.to_be_bytes());
+        }
+    };
+    let fault = |number: usize, image: &mut Vec<u8>, t: &mut Tables| match number {
+        1 => image.truncate(1663),
+        2 => t.k_ta.truncate(191),
+        3 => put(image, 700, 0x0003),
+        4 => put(image, 16, document::encode(15 << 5)),
+        5 => put(image, 64, document::encode(1023)),
+        6 => put(image, 17, 0x0003),
+        _ => {}
+    };
+    for a in 0..7 {
+        for b in 0..7 {
+            let (mut image, mut t) = (good.to_vec(), tables.clone());
+            if a == 5 || b == 5 {
+                put(&mut image, 16, document::encode(14 << 5));
+            }
+            fault(a, &mut image, &mut t);
+            fault(b, &mut image, &mut t);
+            judge(tally, code, "faults in pairs", &image, &t, &format!("faults {a} and {b}"));
+        }
+    }
+}
+
+pub fn compare(tally: &mut Tally, seed: u64, cards: u64) {
+    let code = Code::new();
+    in_order(tally, &code, &mut Numbers::new(seed));
+    for k in 0..cards {
+        progress("cards", k, cards);
+        let mut n = Numbers::new(seed.wrapping_mul(0x1_0000_0001).wrapping_add(k).wrapping_mul(2));
+        let (class, image) = made(&mut n);
+        let mut tables = blank_tables(&mut n);
+        if n.one_in(50) {
+            let short = n.below(192);
+            match n.below(5) {
+                0 => tables.offsets[0].truncate(short),
+                1 => tables.offsets[1].truncate(short),
+                2 => tables.alpha.truncate(short),
+                3 => tables.k_v.truncate(short),
+                _ => tables.k_ta.truncate(short),
+            }
+        }
+        judge(tally, &code, class, &image, &tables, &format!("card {k} of seed {seed}"));
+    }
+}

@@ -1,0 +1,131 @@
+//! What document 01 says of chip words and of what stops a call, written from that document alone.
+use crate::library::{Frame, Record};
+
+/// Number, place and value; all 0 for none.
+pub type Verdict = (u64, u64, u64);
+
+pub struct Code {
+    data: Vec<Option<u16>>,
+}
+
+pub fn encode(data: u16) -> u16 {
+    let mut word = data;
+    for (k, mask) in [0x055B, 0x066D, 0x078E, 0x07F0].into_iter().enumerate() {
+        word |= ((data & mask).count_ones() as u16 % 2) << (11 + k);
+    }
+    word | (word.count_ones() as u16 % 2) << 15
+}
+
+impl Code {
+    /// Each codeword and each word one flip away from it say its data; the others are damaged.
+    pub fn new() -> Self {
+        let mut data = vec![None; 65536];
+        for d in 0..2048 {
+            let word = encode(d);
+            data[usize::from(word)] = Some(d);
+            for bit in 0..16 {
+                data[usize::from(word ^ 1 << bit)] = Some(d);
+            }
+        }
+        Code { data }
+    }
+
+    pub fn check(&self, word: u16) -> Option<u16> {
+        self.data[usize::from(word)]
+    }
+
+    /// What stops a load.
+    pub fn load(&self, image: &[u8], shortest: usize) -> Verdict {
+        if image.len() < 1664 {
+            return (1, image.len() as u64, 0);
+        }
+        if shortest < 192 {
+            return (2, 0, 0);
+        }
+        let mut data = [0u16; 832];
+        for (k, slot) in data.iter_mut().enumerate() {
+            let word = u16::from(image[2 * k]) * 256 + u16::from(image[2 * k + 1]);
+            if k < 16 || k == 19 || k == 20 {
+                continue;
+            }
+            match self.check(word) {
+                Some(d) => *slot = d,
+                None => return (3, k as u64, u64::from(word)),
+            }
+        }
+        let scale = data[16] / 32;
+        if scale >= 15 {
+            return (4, u64::from(scale), 0);
+        }
+        let average = signed(11, data[17] * 32 | data[18]);
+        for entry in 0..384 {
+            let raw = signed(11, data[if entry < 192 { 64 + entry } else { 640 + entry - 192 }]);
+            let part = raw * (1 << scale);
+            if i16::try_from(part).is_err() || i16::try_from(average + part).is_err() {
+                return (5, entry as u64, 0);
+            }
+        }
+        (0, 0, 0)
+    }
+}
+
+pub fn signed(width: u32, x: u16) -> i32 {
+    let low = i32::from(x) & ((1 << width) - 1);
+    if low >> (width - 1) == 1 {
+        low - (1 << width)
+    } else {
+        low
+    }
+}
+
+fn emissivity_stops(emissivity: f32) -> bool {
+    emissivity == 0.0 || emissivity.is_nan()
+}
+
+// 7, then 8.
+fn reading(record: &Record, f: &Frame) -> Verdict {
+    let difference = i32::from(f.ram.v_dd_pixel) - i32::from(record.v_dd_25);
+    if i16::try_from(difference).is_err() {
+        return (7, 0, 0);
+    }
+    let delta = difference as f32 / f32::from(record.k_v_dd);
+    let zero = record.k_v_dd == 0
+        || f.ram.gain == 0
+        || record.k_t_ptat == 0.0
+        || 1.0 + record.k_v_ptat * delta == 0.0
+        || f32::from(f.ram.t_a_ptat) * record.alpha_ptat + f32::from(f.ram.t_a_v_be) == 0.0;
+    if zero || emissivity_stops(f.emissivity) {
+        return (8, 0, 0);
+    }
+    (0, 0, 0)
+}
+
+pub fn infrared(f: &Frame) -> Verdict {
+    if f.tables.without_alpha() < 192 {
+        return (2, 0, 0);
+    }
+    reading(&f.record, f)
+}
+
+pub fn temperature(f: &Frame) -> Verdict {
+    if f.tables.alpha.len() < 192 {
+        return (2, 0, 0);
+    }
+    if f.range > 7 {
+        return (6, f.range as u64, 0);
+    }
+    if emissivity_stops(f.emissivity) {
+        return (8, 0, 0);
+    }
+    (0, 0, 0)
+}
+
+pub fn one_pass(f: &Frame) -> Verdict {
+    if f.tables.shortest() < 192 {
+        return (2, 0, 0);
+    }
+    if f.range > 7 {
+        return (6, f.range as u64, 0);
+    }
+    reading(&f.record, f)
+}

@@ -1,0 +1,383 @@
+//! Frames: infrared against the crate as published, temperatures against the rooted one, the published `powf` counted beside them.
+use crate::cards::{blank_tables, image_of, realistic, sound};
+use crate::document::{self, Verdict};
+use crate::library::{self, Answer, Frame, Ram};
+use crate::numbers::Numbers;
+use crate::tally::{of_crate, progress, Tally};
+use crate::{published, rooted};
+
+// What the crate said: t_a, where the call has one, and the destination.
+type Said = Option<(Option<f32>, Vec<f32>)>;
+
+struct Powf {
+    inside: u64,
+    inside_differ: u64,
+    inside_largest: f32,
+    outside: u64,
+    outside_differ: u64,
+    outside_places: u32,
+    outside_worst: String,
+    kinds_differ: u64,
+}
+
+fn room(n: &mut Numbers) -> Ram {
+    Ram {
+        t_a_v_be: 19442 + n.between(-300, 300) as i16,
+        t_a_ptat: 1711 + n.between(-60, 60) as i16,
+        v_dd_pixel: -13115 + n.between(-200, 200) as i16,
+        gain: 6391 + n.between(-300, 300) as i16,
+        compensation_pixel: -105 + n.between(-100, 100) as i16,
+    }
+}
+
+fn any_ram(n: &mut Numbers) -> Ram {
+    Ram { t_a_v_be: n.word(), t_a_ptat: n.word(), v_dd_pixel: n.word(), gain: n.word(), compensation_pixel: n.word() }
+}
+
+fn realistic_frame(n: &mut Numbers) -> Frame {
+    let data = if n.one_in(4) { sound() } else { realistic(n) };
+    let mut tables = blank_tables(n);
+    let loaded = library::load(&image_of(&data), &mut tables);
+    assert_eq!(loaded.number, 0, "a realistic card loads");
+    let raw = n.between(-900, 1500);
+    let pixels = (0..192).flat_map(|_| ((raw + n.between(-200, 200)) as i16).to_be_bytes()).collect();
+    Frame {
+        record: loaded.calibration,
+        tables,
+        emissivity: if n.one_in(3) { 1.0 } else { n.real(0.7, 1.0) },
+        resolution_correction: n.pick(&[1.0, 1.0, 0.5, 2.0, 0.25]),
+        v_dd_0: 3.3,
+        ram: room(n),
+        subpage: n.below(2) as u8,
+        range: 2,
+        heat: 0,
+        reflected: if n.one_in(2) { None } else { Some(n.real(-10.0, 60.0)) },
+        pixels,
+        mask: vec![1; 192],
+    }
+}
+
+// The caller's side: masks, lengths, ranges, gradients, supplies, emissivities.
+fn vary(n: &mut Numbers, f: &mut Frame) {
+    f.emissivity = match n.below(4) {
+        0 => n.pick(&[1.0, 0.95, 0.5, 1.5, 2.0, -1.0, -0.5, f32::INFINITY, f32::NEG_INFINITY, 1e-40, 1e38]),
+        1 if n.one_in(4) => n.pick(&[0.0, -0.0, f32::NAN, f32::from_bits(0xFFC0_0001)]),
+        2 if n.one_in(4) => n.wild(),
+        _ => f.emissivity,
+    };
+    f.subpage = n.pick(&[0, 0, 1, 1, 2, 255]);
+    f.range = if n.one_in(40) { 8 } else { n.below(8) };
+    f.heat = n.below(4);
+    if n.one_in(3) {
+        f.record.has_gradient = 0;
+    } else {
+        f.record.gradient = n.pick(&[f.record.gradient, f.record.gradient, 0.0, -0.0, 1.0, -4.0]);
+        f.record.has_gradient = n.pick(&[1, 1, 2, 255]);
+    }
+    f.v_dd_0 = n.pick(&[3.3, 3.3, 3.0, 2.6, 5.0]);
+    f.reflected = match n.below(3) {
+        0 => None,
+        1 => Some(n.real(-60.0, 200.0)),
+        _ => Some(n.wild()),
+    };
+    if n.one_in(3) {
+        let length = n.pick(&[0, 1, 2, 3, 191, 200, 382, 383, 384, 385, 386, 600]);
+        f.pixels.resize(length, 0x55);
+    }
+    f.mask = match n.below(5) {
+        0 => (0..192).map(|_| n.below(2) as u8).collect(),
+        1 => (0..n.below(200)).map(|_| n.next() as u8).collect(),
+        2 => (0..250).map(|_| n.pick(&[0, 0, 0, 0x80])).collect(),
+        _ => vec![n.pick(&[1, 255]); n.pick(&[192, 192, 192, 191, 193, 0])],
+    };
+}
+
+fn wild_record(n: &mut Numbers, f: &mut Frame) {
+    let r = &mut f.record;
+    let odds = n.pick(&[2, 6, 20]);
+    for slot in [
+        &mut r.k_v_ptat,
+        &mut r.k_t_ptat,
+        &mut r.v_ptat_25,
+        &mut r.alpha_ptat,
+        &mut r.gain,
+        &mut r.k_s_ta,
+        &mut r.alpha_cp,
+        &mut r.k_v_cp,
+        &mut r.k_ta_cp,
+        &mut r.gradient,
+    ] {
+        if n.one_in(odds) {
+            *slot = n.wild();
+        }
+    }
+    for slot in r.k_s_to.iter_mut() {
+        if n.one_in(odds) {
+            *slot = n.wild();
+        }
+    }
+    for slot in [&mut r.k_v_dd, &mut r.v_dd_25, &mut r.offset_reference_cp] {
+        if n.one_in(odds) {
+            *slot = n.word();
+        }
+    }
+    if n.one_in(odds) {
+        f.resolution_correction = n.wild();
+    }
+    if n.one_in(odds) {
+        f.v_dd_0 = n.wild();
+    }
+}
+
+fn wild_tables(n: &mut Numbers, f: &mut Frame) {
+    let odds = n.pick(&[1, 4, 30]);
+    let t = &mut f.tables;
+    for slot in t.alpha.iter_mut().chain(t.k_v.iter_mut()).chain(t.k_ta.iter_mut()) {
+        if n.one_in(odds) {
+            *slot = n.wild();
+        }
+    }
+    for slot in t.offsets.iter_mut().flatten() {
+        if n.one_in(odds) {
+            *slot = n.word();
+        }
+    }
+    for byte in f.pixels.iter_mut() {
+        if n.one_in(odds) {
+            *byte = n.next() as u8;
+        }
+    }
+    if n.one_in(20) {
+        let short = n.below(192);
+        match n.below(5) {
+            0 => t.offsets[0].truncate(short),
+            1 => t.offsets[1].truncate(short),
+            2 => t.alpha.truncate(short),
+            3 => t.k_v.truncate(short),
+            _ => t.k_ta.truncate(short),
+        }
+    }
+}
+
+fn made(n: &mut Numbers) -> (&'static str, Frame) {
+    let mut f = realistic_frame(n);
+    let kind = n.below(6);
+    if kind == 0 {
+        return ("realistic", f);
+    }
+    vary(n, &mut f);
+    if kind == 1 {
+        return ("realistic card, varied call", f);
+    }
+    if kind != 4 {
+        f.ram = any_ram(n);
+    }
+    if kind == 2 {
+        return ("any RAM words", f);
+    }
+    wild_record(n, &mut f);
+    if kind == 3 {
+        return ("any RAM words, wild record", f);
+    }
+    wild_tables(n, &mut f);
+    (if kind == 4 { "wild record and tables" } else { "any RAM words, wild record and tables" }, f)
+}
+
+fn destination(n: &mut Numbers, kind: &str) -> Vec<u32> {
+    let length = if kind == "realistic" { 192 } else { n.pick(&[192, 192, 192, 192, 0, 1, 191, 193, 300]) };
+    match n.below(3) {
+        0 => (0..length).map(|_| n.wild().to_bits()).collect(),
+        1 => (0..length).map(|_| n.real(-300.0, 3000.0).to_bits()).collect(),
+        _ => (0..length).map(|k| 0x7FA0_0000 + k as u32).collect(),
+    }
+}
+
+fn floats(bits: &[u32]) -> Vec<f32> {
+    bits.iter().map(|b| f32::from_bits(*b)).collect()
+}
+
+fn same(of_crate: f32, of_library: u32) -> bool {
+    if of_crate.is_nan() {
+        of_library == 0x7FC0_0000
+    } else {
+        of_crate.to_bits() == of_library
+    }
+}
+
+struct Judged<'a> {
+    call: &'static str,
+    label: &'a str,
+    mask: &'a [u8],
+    before: &'a [u32],
+    count: usize,
+    t_a: Option<f32>,
+}
+
+// One call: its verdict by the document, the library's answer and destination, and what the crate said. True if there are pixels to go on with.
+fn judge(tally: &mut Tally, j: &Judged, verdict: Verdict, answer: Answer, after: &[u32], said: &Said) -> bool {
+    let did = if said.is_some() { "crate goes on" } else { "crate panics" };
+    tally.count(&format!("{}, verdict {}, {did}", j.call, verdict.0));
+    if (answer.number, answer.place, answer.value) != verdict {
+        tally.disagree(|| format!("{} {}: document {verdict:?}, library {answer:?}", j.call, j.label));
+        return false;
+    }
+    if verdict.0 != 0 {
+        if after != j.before || answer.t_a != 0 || answer.lost != 0 {
+            tally.disagree(|| format!("{} {}: refusal {verdict:?} left something: {answer:?}", j.call, j.label));
+        }
+        if matches!(verdict.0, 6 | 7) && said.is_some() {
+            tally.disagree(|| format!("{} {}: refusal {verdict:?}, the crate goes on", j.call, j.label));
+        }
+        return false;
+    }
+    let Some((t_a, wanted)) = said else {
+        tally.disagree(|| format!("{} {}: the crate panics, the library does not refuse", j.call, j.label));
+        return false;
+    };
+    // Infrared to temperature hands its own t_a back; the others hand back the frame's.
+    if let Some(t_a) = t_a.or(j.t_a) {
+        if !same(t_a, answer.t_a) {
+            tally.disagree(|| format!("{} {}: t_a {t_a:?}, library 0x{:08X}", j.call, j.label, answer.t_a));
+        }
+    }
+    let mut lost = 0;
+    for (i, (want, is)) in wanted.iter().zip(after).enumerate() {
+        let written = i < j.count && j.mask.get(i).is_some_and(|byte| *byte != 0);
+        let agrees = if written { same(*want, *is) } else { *is == j.before[i] && want.to_bits() == j.before[i] };
+        if !agrees {
+            let (bits, was) = (want.to_bits(), j.before[i]);
+            tally.disagree(|| format!("{} {}: pixel {i}, written {written}, was 0x{was:08X}: crate {want:?} 0x{bits:08X}, library 0x{is:08X}", j.call, j.label));
+            return false;
+        }
+        if !written {
+            tally.count(PIXELS_LEFT);
+        } else if want.is_nan() {
+            lost += 1;
+            tally.count(PIXELS_LOST);
+        } else {
+            tally.count(if want.is_infinite() { PIXELS_INFINITE } else if *is == 0x8000_0000 { PIXELS_MINUS_ZERO } else { PIXELS_FINITE });
+        }
+    }
+    if answer.lost != lost || wanted.len() != after.len() {
+        tally.disagree(|| format!("{} {}: {lost} lost, library says {}", j.call, j.label, answer.lost));
+    }
+    true
+}
+
+const PIXELS_LEFT: &str = "pixels left as they were";
+const PIXELS_LOST: &str = "pixels not a number";
+const PIXELS_INFINITE: &str = "pixels infinite";
+const PIXELS_MINUS_ZERO: &str = "pixels -0";
+const PIXELS_FINITE: &str = "pixels finite";
+
+// Numbers in order, so that neighbours differ by 1.
+fn ordered(x: f32) -> i64 {
+    let bits = i64::from(x.to_bits());
+    if bits >= 0x8000_0000 {
+        0x8000_0000 - bits
+    } else {
+        bits
+    }
+}
+
+fn compare_powf(powf: &mut Powf, label: &str, published: &[f32], after: &[u32], written: impl Fn(usize) -> bool) {
+    for (i, (a, b)) in published.iter().zip(after).enumerate().filter(|(i, _)| written(*i)) {
+        let b = f32::from_bits(*b);
+        if a.is_nan() != b.is_nan() || a.is_infinite() != b.is_infinite() {
+            powf.kinds_differ += 1;
+            continue;
+        }
+        if !b.is_finite() {
+            continue;
+        }
+        // X from 2^32 up to 2^36 is a temperature from -17.15 up to 238.85.
+        if (-17.15..238.85).contains(&b) {
+            powf.inside += 1;
+            powf.inside_differ += u64::from(*a != b);
+            powf.inside_largest = powf.inside_largest.max((a - b).abs());
+        } else {
+            powf.outside += 1;
+            powf.outside_differ += u64::from(*a != b);
+            let places = ordered(*a).abs_diff(ordered(b)).min(u64::from(u32::MAX)) as u32;
+            if places > powf.outside_places {
+                powf.outside_places = places;
+                powf.outside_worst = format!("{label}, pixel {i}: powf {a:?}, root {b:?}");
+            }
+        }
+    }
+}
+
+fn one(tally: &mut Tally, powf: &mut Powf, n: &mut Numbers, label: &str) {
+    let (kind, f) = made(n);
+    tally.count(&format!("frames, {kind}"));
+    let before = destination(n, kind);
+    let count = 192.min(before.len()).min(f.pixels.len() / 2);
+
+    let mut after = before.clone();
+    let answer = library::raw_pixels_to_ir_data(&f, &mut after);
+    let said = of_crate(|| {
+        let mut destination = floats(&before);
+        let t_a = published::raw_pixels_to_ir_data(&f, &mut destination);
+        (Some(t_a), destination)
+    });
+    let j = Judged { call: "infrared", label, mask: &f.mask, before: &before, count, t_a: None };
+    let infrared = judge(tally, &j, document::infrared(&f), answer, &after, &said).then(|| (after.clone(), f32::from_bits(answer.t_a)));
+
+    // From the infrared numbers of this frame, or from whatever stands in the destination.
+    let (from, t_a) = match infrared {
+        Some(given) if !n.one_in(3) => given,
+        _ => (before.clone(), if n.one_in(2) { n.real(-40.0, 90.0) } else { n.wild() }),
+    };
+    let mut after = from.clone();
+    let answer = library::raw_ir_to_temperatures(&f, t_a, &mut after);
+    let said = of_crate(|| {
+        let mut destination = floats(&from);
+        rooted::raw_ir_to_temperatures(&f, t_a, &mut destination);
+        (None, destination)
+    });
+    let j = Judged { call: "temperature", label, mask: &f.mask, before: &from, count: 192.min(from.len()), t_a: Some(t_a) };
+    judge(tally, &j, document::temperature(&f), answer, &after, &said);
+
+    let mut after = before.clone();
+    let answer = library::raw_pixels_to_temperatures(&f, &mut after);
+    let said = of_crate(|| {
+        let mut destination = floats(&before);
+        let t_a = rooted::raw_pixels_to_temperatures(&f, &mut destination);
+        (Some(t_a), destination)
+    });
+    let j = Judged { call: "one pass", label, mask: &f.mask, before: &before, count, t_a: None };
+    if judge(tally, &j, document::one_pass(&f), answer, &after, &said) {
+        let mut destination = floats(&before);
+        published::raw_pixels_to_temperatures(&f, &mut destination);
+        compare_powf(powf, label, &destination, &after, |i| i < count && f.mask.get(i).is_some_and(|byte| *byte != 0));
+    }
+}
+
+pub fn compare(tally: &mut Tally, seed: u64, frames: u64) {
+    let mut powf = Powf {
+        inside: 0,
+        inside_differ: 0,
+        inside_largest: 0.0,
+        outside: 0,
+        outside_differ: 0,
+        outside_places: 0,
+        outside_worst: String::new(),
+        kinds_differ: 0,
+    };
+    for k in 0..frames {
+        progress("frames", k, frames);
+        let mut n = Numbers::new(seed.wrapping_mul(0x1_0000_0003).wrapping_add(k).wrapping_mul(2).wrapping_add(1));
+        one(tally, &mut powf, &mut n, &format!("frame {k} of seed {seed}"));
+    }
+    tally.notes.push(format!(
+        "powf as published, temperatures from -17.15 up to 238.85: {} pixels, {} differ from the root, at most by {} degrees ({} / 32768)",
+        powf.inside,
+        powf.inside_differ,
+        powf.inside_largest,
+        powf.inside_largest * 32768.0
+    ));
+    tally.notes.push(format!(
+        "powf as published, other temperatures: {} pixels, {} differ, at most by {} places ({}); {} where one is infinite or not a number and the other is not",
+        powf.outside, powf.outside_differ, powf.outside_places, powf.outside_worst, powf.kinds_differ
+    ));
+}

@@ -1,0 +1,136 @@
+//! Nanoseconds a frame and a load: the crate as published, the rooted one and the library, over cards/sound.bin and a room's pixels.
+//! All three take turns, so that a busy machine slows them alike; each figure is the least of many rounds. What they write is compared first.
+#[allow(dead_code)]
+mod library;
+
+use library::{Frame, Ram, Tables};
+use std::hint::black_box;
+use std::time::Instant;
+
+const FRAMES: usize = 10_000;
+const LOADS: usize = 2_000;
+const ROUNDS: usize = 15;
+const IMAGE: &[u8] = include_bytes!("../cards/sound.bin");
+
+macro_rules! subject {
+    ($name:ident, $subject:ident) => {
+        mod $name {
+            use crate::library::Frame;
+            use $subject::calculations::{self, RamData};
+            use $subject::mlx90641::{Mlx90641, Mlx90641Calibration};
+            use $subject::{AccessPattern, MelexisCamera, Subpage};
+
+            pub fn load(image: &[u8]) -> Mlx90641Calibration {
+                Mlx90641Calibration::from_data(image).unwrap()
+            }
+
+            fn ram(f: &Frame) -> RamData {
+                RamData {
+                    t_a_v_be: f.ram.t_a_v_be,
+                    t_a_ptat: f.ram.t_a_ptat,
+                    v_dd_pixel: f.ram.v_dd_pixel,
+                    gain: f.ram.gain,
+                    compensation_pixel: f.ram.compensation_pixel,
+                }
+            }
+
+            #[inline(never)]
+            pub fn one_pass(c: &Mlx90641Calibration, f: &Frame, destination: &mut [f32]) -> f32 {
+                let pattern = AccessPattern::Interleave;
+                let mut valid = Mlx90641::pixels_in_subpage(Subpage::Zero, pattern);
+                let correction = f.resolution_correction;
+                calculations::raw_pixels_to_temperatures(
+                    c, f.emissivity, f.reflected, correction, &f.pixels, ram(f), Subpage::Zero, pattern, &mut valid, destination,
+                )
+            }
+
+            #[inline(never)]
+            pub fn infrared(c: &Mlx90641Calibration, f: &Frame, destination: &mut [f32]) -> f32 {
+                let pattern = AccessPattern::Interleave;
+                let mut valid = Mlx90641::pixels_in_subpage(Subpage::Zero, pattern);
+                let correction = f.resolution_correction;
+                calculations::raw_pixels_to_ir_data(
+                    c, f.emissivity, correction, &f.pixels, ram(f), Subpage::Zero, pattern, &mut valid, destination,
+                )
+            }
+        }
+    };
+}
+subject!(published, mlx9064x);
+subject!(rooted, mlx9064x_rooted);
+
+fn frames() -> Vec<Frame> {
+    let mut tables = Tables { offsets: [vec![0; 192], vec![0; 192]], alpha: vec![0.0; 192], k_v: vec![0.0; 192], k_ta: vec![0.0; 192] };
+    let loaded = library::load(IMAGE, &mut tables);
+    assert_eq!(loaded.number, 0);
+    let mut state = 1u32;
+    let mut next = || {
+        state = state.wrapping_mul(1664525).wrapping_add(1013904223);
+        (state >> 16) as i16
+    };
+    (0..16)
+        .map(|_| Frame {
+            record: loaded.calibration,
+            tables: tables.clone(),
+            emissivity: 0.95,
+            resolution_correction: 1.0,
+            v_dd_0: 3.3,
+            ram: Ram { t_a_v_be: 19442, t_a_ptat: 1711, v_dd_pixel: -13115, gain: 6391, compensation_pixel: -105 },
+            subpage: 0,
+            range: 2,
+            heat: 0,
+            reflected: None,
+            pixels: (0..192).flat_map(|_| (-620 + next() % 200).to_be_bytes()).collect(),
+            mask: vec![1; 192],
+        })
+        .collect()
+}
+
+fn time(n: usize, mut work: impl FnMut(usize)) -> f64 {
+    let start = Instant::now();
+    for k in 0..n {
+        work(k);
+    }
+    start.elapsed().as_nanos() as f64 / n as f64
+}
+
+fn line(what: &str, [published, rooted, ours]: [f64; 3]) {
+    println!(
+        "{what}\tcrate as published {published:.0} ns\trooted crate {rooted:.0} ns\tlibrary {ours:.0} ns\tlibrary / published {:.2}\tlibrary / rooted {:.2}",
+        ours / published,
+        ours / rooted
+    );
+}
+
+fn main() {
+    let frames = frames();
+    let (p, r) = (published::load(IMAGE), rooted::load(IMAGE));
+    let (mut a, mut b) = ([0f32; 192], [0u32; 192]);
+    for f in &frames {
+        rooted::one_pass(&r, f, &mut a);
+        library::raw_pixels_to_temperatures(f, &mut b);
+        assert!(a.iter().zip(&b).all(|(x, y)| x.to_bits() == *y), "the same pixels");
+        assert!(a.iter().all(|t| (0.0..60.0).contains(t)), "a room: {a:?}");
+    }
+    let mut tables = frames[0].tables.clone();
+    let mut least = [[f64::MAX; 3]; 3];
+    let keep = |slot: &mut f64, t: f64| *slot = slot.min(t);
+    for _ in 0..ROUNDS {
+        let pass = &mut least[0];
+        keep(&mut pass[0], time(FRAMES, |k| { black_box(published::one_pass(&p, black_box(&frames[k % 16]), black_box(&mut a))); }));
+        keep(&mut pass[1], time(FRAMES, |k| { black_box(rooted::one_pass(&r, black_box(&frames[k % 16]), black_box(&mut a))); }));
+        keep(&mut pass[2], time(FRAMES, |k| { black_box(library::raw_pixels_to_temperatures(black_box(&frames[k % 16]), black_box(&mut b))); }));
+        let infrared = &mut least[1];
+        keep(&mut infrared[0], time(FRAMES, |k| { black_box(published::infrared(&p, black_box(&frames[k % 16]), black_box(&mut a))); }));
+        keep(&mut infrared[1], time(FRAMES, |k| { black_box(rooted::infrared(&r, black_box(&frames[k % 16]), black_box(&mut a))); }));
+        keep(&mut infrared[2], time(FRAMES, |k| { black_box(library::raw_pixels_to_ir_data(black_box(&frames[k % 16]), black_box(&mut b))); }));
+        let load = &mut least[2];
+        keep(&mut load[0], time(LOADS, |_| { black_box(published::load(black_box(IMAGE))); }));
+        keep(&mut load[1], time(LOADS, |_| { black_box(rooted::load(black_box(IMAGE))); }));
+        keep(&mut load[2], time(LOADS, |_| { black_box(library::load(black_box(IMAGE), black_box(&mut tables))); }));
+    }
+    println!("least of {ROUNDS} rounds; {FRAMES} frames and {LOADS} loads in each");
+    line("one pass, a frame", least[0]);
+    line("infrared alone, a frame", least[1]);
+    line("load, a card", least[2]);
+}
