@@ -1,0 +1,303 @@
+//! The MLX90641 heat camera: a card to a calibration, and frames to infrared numbers and temperatures, by Loamchalice, whose calls are
+//! proved against contracts. Names follow crate mlx9064x.
+//!
+//! ```
+//! use loamchalice::{Calibration, RamData, Settings, Subpage, ALL_PIXELS};
+//!
+//! let card = include_bytes!("../../../cards/sound.bin");
+//! let camera = Calibration::from_data(card)?;
+//! let ram = RamData { t_a_v_be: 19442, t_a_ptat: 1711, v_dd_pixel: -13115, gain: 6391, compensation_pixel: -105 };
+//! let pixels = [0xFD, 0x94].repeat(192); // each reads -620
+//! let mut picture = [0f32; 192];
+//! let frame = camera.raw_pixels_to_temperatures(&Settings::default(), ram, Subpage::Zero, &pixels, &ALL_PIXELS, &mut picture)?;
+//! assert_eq!(frame.lost, 0);
+//! assert!((38.0..41.0).contains(&frame.t_a));
+//! assert!(picture.iter().all(|t| (15.0..35.0).contains(t)));
+//! # Ok::<(), loamchalice::Refusal>(())
+//! ```
+mod border;
+mod refusal;
+
+pub use refusal::Refusal;
+
+/// A mask that asks for every pixel.
+pub const ALL_PIXELS: [bool; 192] = [true; 192];
+
+/// Which half of the camera's readings a frame is of. Each covers all pixels.
+#[derive(Clone, Copy, Debug, PartialEq, Eq)]
+pub enum Subpage {
+    Zero,
+    One,
+}
+
+/// What a frame reads from the camera's RAM beside its pixels.
+#[derive(Clone, Copy, Debug, PartialEq, Eq)]
+pub struct RamData {
+    pub t_a_v_be: i16,
+    pub t_a_ptat: i16,
+    pub v_dd_pixel: i16,
+    pub gain: i16,
+    pub compensation_pixel: i16,
+}
+
+/// The caller's numbers. The defaults are mlx9064x's for this camera, for a body that reflects nothing.
+#[derive(Clone, Copy, Debug, PartialEq)]
+pub struct Settings {
+    pub emissivity: f32,
+    /// See [`resolution_correction`].
+    pub resolution_correction: f32,
+    /// The nominal supply.
+    pub v_dd_0: f32,
+    /// 0 to 7.
+    pub basic_range: usize,
+    /// What the ambient temperature loses to stand for the reflected one, where that is not given.
+    pub self_heating: f32,
+    /// The reflected temperature, if it is known.
+    pub reflected: Option<f32>,
+}
+
+impl Default for Settings {
+    fn default() -> Self {
+        Settings { emissivity: 1.0, resolution_correction: 1.0, v_dd_0: 3.3, basic_range: 2, self_heating: 5.0, reflected: None }
+    }
+}
+
+/// What a frame gives beside its pixels.
+#[derive(Clone, Copy, Debug, PartialEq)]
+pub struct Frame {
+    /// The ambient temperature: the camera's own.
+    pub t_a: f32,
+    /// How many pixels this call wrote as not a number.
+    pub lost: usize,
+}
+
+/// 2 to the power of the card's resolution less the camera's current one, each 0 to 3.
+///
+/// ```
+/// assert_eq!(loamchalice::resolution_correction(2, 3), 0.5);
+/// ```
+pub fn resolution_correction(calibrated: u8, current: u8) -> f32 {
+    f32::from(i16::from(calibrated) - i16::from(current)).exp2()
+}
+
+/// The chip word of 11 bits of data. Refusal 9.
+///
+/// ```
+/// assert_eq!(loamchalice::add_checksum(3), Ok(0x3003));
+/// assert!(loamchalice::add_checksum(2048).is_err());
+/// ```
+pub fn add_checksum(data: u16) -> Result<u16, Refusal> {
+    let answer = unsafe { border::loamchalice_encode(data) };
+    Refusal::of(answer.number, answer.place, answer.value).map_or(Ok(answer.word), Err)
+}
+
+/// The data of a chip word, mended where one bit is flipped. Refusal 3.
+///
+/// ```
+/// use loamchalice::{validate_checksum, Refusal};
+/// assert_eq!(validate_checksum(0x9800), Ok(1));
+/// assert_eq!(validate_checksum(3), Err(Refusal::DamagedWord { word: 0, bits: 3 }));
+/// ```
+pub fn validate_checksum(word: u16) -> Result<u16, Refusal> {
+    let answer = unsafe { border::loamchalice_check(word) };
+    Refusal::of(answer.number, answer.place, answer.value).map_or(Ok(answer.word), Err)
+}
+
+/// A card's record and tables.
+#[derive(Clone, Debug)]
+pub struct Calibration {
+    record: border::Record,
+    offsets: [[i16; 192]; 2],
+    alpha: [f32; 192],
+    k_v: [f32; 192],
+    k_ta: [f32; 192],
+}
+
+impl Calibration {
+    /// Loads a card's image: 1,664 bytes, what follows is ignored. Refusals 1, 3, 4, 5.
+    ///
+    /// ```
+    /// use loamchalice::{Calibration, Refusal};
+    /// let short = Calibration::from_data(&[0; 1663]);
+    /// assert_eq!(short.err(), Some(Refusal::ShortImage { length: 1663 }));
+    /// ```
+    pub fn from_data(image: &[u8]) -> Result<Self, Refusal> {
+        let (mut offsets, mut alpha, mut k_v, mut k_ta) = ([[0; 192]; 2], [0.0; 192], [0.0; 192], [0.0; 192]);
+        let [offsets0, offsets1] = &mut offsets;
+        let loaded = unsafe {
+            border::loamchalice_load(
+                image.as_ptr(),
+                image.len(),
+                offsets0.as_mut_ptr(),
+                192,
+                offsets1.as_mut_ptr(),
+                192,
+                alpha.as_mut_ptr(),
+                192,
+                k_v.as_mut_ptr(),
+                192,
+                k_ta.as_mut_ptr(),
+                192,
+            )
+        };
+        match Refusal::of(loaded.number, loaded.place, loaded.value) {
+            Some(refusal) => Err(refusal),
+            None => Ok(Calibration { record: loaded.calibration, offsets, alpha, k_v, k_ta }),
+        }
+    }
+
+    /// The resolution that the card was written at, 0 to 3.
+    pub fn resolution(&self) -> u8 {
+        self.record.resolution
+    }
+
+    /// The emissivity on the card. No call uses it by itself.
+    pub fn emissivity(&self) -> f32 {
+        self.record.emissivity
+    }
+
+    /// The gradient coefficient, if there is one.
+    pub fn temperature_gradient_coefficient(&self) -> Option<f32> {
+        (self.record.has_gradient != 0).then_some(self.record.gradient)
+    }
+
+    /// The same card with another gradient, or without one.
+    pub fn with_gradient(mut self, gradient: Option<f32>) -> Self {
+        self.record.has_gradient = gradient.is_some().into();
+        self.record.gradient = gradient.unwrap_or(0.0);
+        self
+    }
+
+    /// The corner temperatures of the eight ranges.
+    pub fn corner_temperatures(&self) -> &[i16; 8] {
+        &self.record.corner_temperatures
+    }
+
+    /// The offsets of a subpage.
+    pub fn offset_reference_pixels(&self, subpage: Subpage) -> &[i16; 192] {
+        &self.offsets[subpage as usize]
+    }
+
+    /// The sensitivities of the pixels.
+    pub fn alpha_pixels(&self) -> &[f32; 192] {
+        &self.alpha
+    }
+
+    /// Pixels, two bytes each and the upper first, to infrared numbers. A pixel whose mask is false or missing stays. Refusals 7, 8.
+    pub fn raw_pixels_to_ir_data(
+        &self,
+        settings: &Settings,
+        ram: RamData,
+        subpage: Subpage,
+        pixels: &[u8],
+        valid_pixels: &[bool],
+        destination: &mut [f32],
+    ) -> Result<Frame, Refusal> {
+        answered(unsafe {
+            border::loamchalice_raw_pixels_to_ir_data(
+                self.record,
+                settings.emissivity,
+                settings.resolution_correction,
+                settings.v_dd_0,
+                words(ram),
+                subpage as u8,
+                self.offsets[0].as_ptr(),
+                192,
+                self.offsets[1].as_ptr(),
+                192,
+                self.k_v.as_ptr(),
+                192,
+                self.k_ta.as_ptr(),
+                192,
+                pixels.as_ptr(),
+                pixels.len(),
+                valid_pixels.as_ptr().cast(),
+                valid_pixels.len(),
+                destination.as_mut_ptr().cast(),
+                destination.len(),
+            )
+        })
+    }
+
+    /// Infrared numbers to temperatures, in place, for the ambient temperature that the infrared call gave. Refusals 6, 8.
+    pub fn raw_ir_to_temperatures(&self, settings: &Settings, t_a: f32, valid_pixels: &[bool], destination: &mut [f32]) -> Result<Frame, Refusal> {
+        let (given, number) = reflected(settings);
+        answered(unsafe {
+            border::loamchalice_raw_ir_to_temperatures(
+                self.record,
+                settings.emissivity,
+                t_a,
+                settings.basic_range,
+                given,
+                number,
+                self.alpha.as_ptr(),
+                192,
+                valid_pixels.as_ptr().cast(),
+                valid_pixels.len(),
+                destination.as_mut_ptr().cast(),
+                destination.len(),
+            )
+        })
+    }
+
+    /// Pixels to temperatures in one pass. Refusals 6, 7, 8.
+    pub fn raw_pixels_to_temperatures(
+        &self,
+        settings: &Settings,
+        ram: RamData,
+        subpage: Subpage,
+        pixels: &[u8],
+        valid_pixels: &[bool],
+        destination: &mut [f32],
+    ) -> Result<Frame, Refusal> {
+        let (given, number) = reflected(settings);
+        answered(unsafe {
+            border::loamchalice_raw_pixels_to_temperatures(
+                self.record,
+                settings.emissivity,
+                settings.resolution_correction,
+                settings.v_dd_0,
+                words(ram),
+                subpage as u8,
+                settings.basic_range,
+                given,
+                number,
+                self.offsets[0].as_ptr(),
+                192,
+                self.offsets[1].as_ptr(),
+                192,
+                self.alpha.as_ptr(),
+                192,
+                self.k_v.as_ptr(),
+                192,
+                self.k_ta.as_ptr(),
+                192,
+                pixels.as_ptr(),
+                pixels.len(),
+                valid_pixels.as_ptr().cast(),
+                valid_pixels.len(),
+                destination.as_mut_ptr().cast(),
+                destination.len(),
+            )
+        })
+    }
+}
+
+fn words(ram: RamData) -> border::Ram {
+    let RamData { t_a_v_be, t_a_ptat, v_dd_pixel, gain, compensation_pixel } = ram;
+    border::Ram { t_a_v_be, t_a_ptat, v_dd_pixel, gain, compensation_pixel }
+}
+
+fn reflected(settings: &Settings) -> (u8, f32) {
+    match settings.reflected {
+        Some(given) => (1, given),
+        None => (0, settings.self_heating),
+    }
+}
+
+fn answered(answer: border::Answer) -> Result<Frame, Refusal> {
+    match Refusal::of(answer.number, answer.place, answer.value) {
+        Some(refusal) => Err(refusal),
+        None => Ok(Frame { t_a: f32::from_bits(answer.t_a), lost: answer.lost }),
+    }
+}

@@ -1,0 +1,100 @@
+use std::error::Error;
+use std::fmt;
+
+/// What stops a call, before it has written anything. Lowest number first where there are several.
+#[derive(Clone, Copy, Debug, PartialEq, Eq)]
+pub enum Refusal {
+    /// 1: the image is below 1,664 bytes.
+    ShortImage { length: usize },
+    /// 2: a table has fewer than 192 entries. The tables of a [`Calibration`](crate::Calibration) never do.
+    ShortTable,
+    /// 3: a chip word is neither a codeword nor one flip away from one.
+    DamagedWord { word: usize, bits: u16 },
+    /// 4: the offset scale is 15 or more.
+    OffsetScale { scale: u16 },
+    /// 5: a pixel's offset is outside 16 bits.
+    OffsetRange { subpage: usize, pixel: usize },
+    /// 6: the basic range is above 7.
+    BasicRange { range: usize },
+    /// 7: the supply reading is too far from its reference.
+    SupplyRange,
+    /// 8: a divisor is zero, or the emissivity is zero or not a number.
+    ZeroDivisor,
+    /// 9: data to encode is above 2047.
+    DataTooLarge { data: u16 },
+}
+
+impl Refusal {
+    // Of the library's number, place and value; None for the number 0.
+    pub(crate) fn of(number: u64, place: u64, value: u64) -> Option<Self> {
+        let at = place as usize;
+        Some(match number {
+            0 => return None,
+            1 => Refusal::ShortImage { length: at },
+            2 => Refusal::ShortTable,
+            3 => Refusal::DamagedWord { word: at, bits: value as u16 },
+            4 => Refusal::OffsetScale { scale: place as u16 },
+            5 => Refusal::OffsetRange { subpage: at / 192, pixel: at % 192 },
+            6 => Refusal::BasicRange { range: at },
+            7 => Refusal::SupplyRange,
+            8 => Refusal::ZeroDivisor,
+            9 => Refusal::DataTooLarge { data: place as u16 },
+            _ => unreachable!("the library has nine refusals"),
+        })
+    }
+
+    /// 1 to 9.
+    pub fn number(self) -> u64 {
+        match self {
+            Refusal::ShortImage { .. } => 1,
+            Refusal::ShortTable => 2,
+            Refusal::DamagedWord { .. } => 3,
+            Refusal::OffsetScale { .. } => 4,
+            Refusal::OffsetRange { .. } => 5,
+            Refusal::BasicRange { .. } => 6,
+            Refusal::SupplyRange => 7,
+            Refusal::ZeroDivisor => 8,
+            Refusal::DataTooLarge { .. } => 9,
+        }
+    }
+
+    /// Where, or how much; 0 where there is nothing to say.
+    pub fn place(self) -> u64 {
+        match self {
+            Refusal::ShortImage { length } => length as u64,
+            Refusal::DamagedWord { word, .. } => word as u64,
+            Refusal::OffsetScale { scale } => scale.into(),
+            Refusal::OffsetRange { subpage, pixel } => (192 * subpage + pixel) as u64,
+            Refusal::BasicRange { range } => range as u64,
+            Refusal::DataTooLarge { data } => data.into(),
+            Refusal::ShortTable | Refusal::SupplyRange | Refusal::ZeroDivisor => 0,
+        }
+    }
+
+    /// The bits of a damaged word, else 0.
+    pub fn value(self) -> u64 {
+        match self {
+            Refusal::DamagedWord { bits, .. } => bits.into(),
+            _ => 0,
+        }
+    }
+}
+
+impl fmt::Display for Refusal {
+    fn fmt(&self, f: &mut fmt::Formatter<'_>) -> fmt::Result {
+        write!(f, "refusal {}: ", self.number())?;
+        match self {
+            Refusal::ShortImage { length } => write!(f, "the image has {length} bytes, a card 1664"),
+            Refusal::ShortTable => write!(f, "a table has fewer than 192 entries"),
+            Refusal::DamagedWord { word, bits } => write!(f, "word {word} is damaged: {bits:#06X}"),
+            Refusal::OffsetScale { scale } => write!(f, "the offset scale is {scale}, above 14"),
+            Refusal::OffsetRange { subpage, pixel } => write!(f, "the offset of pixel {pixel}, subpage {subpage}, is outside 16 bits"),
+            Refusal::BasicRange { range } => write!(f, "there is no basic range {range}, only 0 to 7"),
+            Refusal::SupplyRange => write!(f, "the supply reading is too far from its reference"),
+            Refusal::ZeroDivisor => write!(f, "a divisor is zero, or the emissivity is zero or not a number"),
+            Refusal::DataTooLarge { data } => write!(f, "{data} is above 2047"),
+        }
+    }
+}
+
+impl Error for Refusal {}

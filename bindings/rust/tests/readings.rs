@@ -1,0 +1,74 @@
+//! Readings of document 01 through the binding.
+use loamchalice::{Calibration, RamData, Refusal, Settings, Subpage, ALL_PIXELS};
+
+const SOUND: &[u8] = include_bytes!("../../../cards/sound.bin");
+const ROOM: RamData = RamData { t_a_v_be: 19442, t_a_ptat: 1711, v_dd_pixel: -13115, gain: 6391, compensation_pixel: -105 };
+
+#[test]
+fn cards_are_refused_by_number_place_and_value() {
+    let refused = |image: &[u8]| Calibration::from_data(image).err().map(|r| (r.number(), r.place(), r.value()));
+    assert_eq!(refused(SOUND), None);
+    assert_eq!(refused(include_bytes!("../../../cards/mended.bin")), None);
+    assert_eq!(refused(include_bytes!("../../../cards/wiped.bin")), None);
+    assert_eq!(refused(include_bytes!("../../../cards/short.bin")), Some((1, 1663, 0)));
+    assert_eq!(refused(include_bytes!("../../../cards/damaged.bin")), Some((3, 100, 516)));
+    assert_eq!(refused(&[0xFF; 1664]), Some((4, 63, 0)));
+}
+
+#[test]
+fn a_refusal_says_itself() {
+    let refusal = Calibration::from_data(include_bytes!("../../../cards/damaged.bin")).unwrap_err();
+    assert_eq!(refusal.to_string(), "refusal 3: word 100 is damaged: 0x0204");
+    let _: &dyn std::error::Error = &refusal;
+}
+
+#[test]
+fn a_wiped_card_has_no_frames() {
+    let wiped = Calibration::from_data(&[0; 1664]).unwrap();
+    let mut picture = [7.5f32; 192];
+    let ram = RamData { v_dd_pixel: 0, ..ROOM };
+    let refused = wiped.raw_pixels_to_temperatures(&Settings::default(), ram, Subpage::One, &[0; 384], &ALL_PIXELS, &mut picture);
+    assert_eq!(refused, Err(Refusal::ZeroDivisor));
+    assert_eq!(picture, [7.5; 192]);
+}
+
+#[test]
+fn one_pass_or_two() {
+    let camera = Calibration::from_data(SOUND).unwrap();
+    let settings = Settings { emissivity: 0.9, reflected: Some(21.0), ..Settings::default() };
+    let pixels = [0xFD, 0x94].repeat(192);
+    let mut mask = ALL_PIXELS;
+    mask[5] = false;
+    let (mut once, mut twice) = ([1.0f32; 192], [1.0f32; 192]);
+    let frame = camera.raw_pixels_to_temperatures(&settings, ROOM, Subpage::One, &pixels, &mask, &mut once).unwrap();
+    let infrared = camera.raw_pixels_to_ir_data(&settings, ROOM, Subpage::One, &pixels, &mask, &mut twice).unwrap();
+    camera.raw_ir_to_temperatures(&settings, infrared.t_a, &mask, &mut twice).unwrap();
+    assert_eq!(frame.t_a, infrared.t_a);
+    assert_eq!(once, twice);
+    assert_eq!(once[5], 1.0);
+    assert!(once[6] != 1.0);
+}
+
+#[test]
+fn refusals_of_frames() {
+    let camera = Calibration::from_data(SOUND).unwrap();
+    let mut picture = [0f32; 192];
+    let mut call = |settings: Settings, ram: RamData| {
+        let answer = camera.raw_pixels_to_temperatures(&settings, ram, Subpage::Zero, &[0; 384], &ALL_PIXELS, &mut picture);
+        answer.err().map(|r| r.number())
+    };
+    let usual = Settings::default();
+    assert_eq!(call(usual, ROOM), None);
+    assert_eq!(call(Settings { basic_range: 8, ..usual }, ROOM), Some(6));
+    assert_eq!(call(usual, RamData { v_dd_pixel: 32767, ..ROOM }), Some(7));
+    assert_eq!(call(usual, RamData { gain: 0, ..ROOM }), Some(8));
+    assert_eq!(call(Settings { emissivity: f32::NAN, ..usual }, ROOM), Some(8));
+}
+
+#[test]
+fn no_gradient_is_not_gradient_zero_in_kind() {
+    let camera = Calibration::from_data(SOUND).unwrap();
+    assert!(camera.temperature_gradient_coefficient().is_some());
+    assert_eq!(camera.clone().with_gradient(None).temperature_gradient_coefficient(), None);
+    assert_eq!(camera.with_gradient(Some(0.0)).temperature_gradient_coefficient(), Some(0.0));
+}
