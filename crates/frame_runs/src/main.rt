@@ -481,14 +481,13 @@ fn sound_calls(label: &[u8], ask: Ask) {
 
 // ---- Usual frames
 
-fn subpage_1() {
+// As they are, from the other subpage, and with a reflected temperature that is given.
+fn usual_frames() {
     let mut ask = usual();
+    sound_calls(b"usual", ask);
     ask.subpage = 1;
     pixel_calls(b"subpage 1", sound(), room(), ask);
-}
-
-fn given() {
-    let mut ask = usual();
+    ask.subpage = 0;
     ask.given = true;
     ask.reflected = -40.0;
     sound_calls(b"reflected -40", ask);
@@ -652,16 +651,6 @@ fn pixel_bytes(n: usize) {
     pixel_calls(b"pixel bytes", sound(), room(), ask);
 }
 
-fn lengths_of_pixels() {
-    pixel_bytes(0);
-    pixel_bytes(1);
-    pixel_bytes(2);
-    pixel_bytes(3);
-    pixel_bytes(383);
-    pixel_bytes(384);
-    pixel_bytes(400);
-}
-
 fn entries(n: usize) {
     let mut ask = usual();
     ask.case = n as u64;
@@ -669,14 +658,6 @@ fn entries(n: usize) {
     ask.bytes = 400;
     ask.entries = n;
     sound_calls(b"entries", ask);
-}
-
-fn lengths_of_destinations() {
-    entries(0);
-    entries(1);
-    entries(191);
-    entries(192);
-    entries(200);
 }
 
 // The tables are numbered as a call takes them: offsets of both subpages, alpha, K_V, K_Ta.
@@ -689,7 +670,19 @@ fn short_table(short: u8) {
     pixel_calls(b"short table, subpage 1", sound(), room(), ask);
 }
 
-fn lengths_of_tables() {
+fn lengths() {
+    pixel_bytes(0);
+    pixel_bytes(1);
+    pixel_bytes(2);
+    pixel_bytes(3);
+    pixel_bytes(383);
+    pixel_bytes(384);
+    pixel_bytes(400);
+    entries(0);
+    entries(1);
+    entries(191);
+    entries(192);
+    entries(200);
     short_table(1);
     short_table(2);
     short_table(3);
@@ -815,17 +808,13 @@ fn pairs() {
 }
 
 fn main() {
-    sound_calls(b"usual", usual());
-    subpage_1();
-    given();
+    usual_frames();
     gradients();
     ranges();
     known_roots();
     all_zero();
     masks();
-    lengths_of_pixels();
-    lengths_of_destinations();
-    lengths_of_tables();
+    lengths();
     not_numbers();
     supplies();
     emissivities();
