@@ -9,14 +9,13 @@ use crate::{published, rooted};
 // What the crate said: t_a, where the call has one, and the destination.
 type Said = Option<(Option<f32>, Vec<f32>)>;
 
+// How the published `powf` differs: in temperatures of one class of frames.
+#[derive(Default)]
 struct Powf {
-    inside: u64,
-    inside_differ: u64,
-    inside_largest: f32,
-    outside: u64,
-    outside_differ: u64,
-    outside_places: u32,
-    outside_worst: String,
+    pixels: u64,
+    differ: u64,
+    degrees: f32,
+    worst: String,
     kinds_differ: u64,
 }
 
@@ -270,44 +269,23 @@ const PIXELS_INFINITE: &str = "pixels infinite";
 const PIXELS_MINUS_ZERO: &str = "pixels -0";
 const PIXELS_FINITE: &str = "pixels finite";
 
-// Numbers in order, so that neighbours differ by 1.
-fn ordered(x: f32) -> i64 {
-    let bits = i64::from(x.to_bits());
-    if bits >= 0x8000_0000 {
-        0x8000_0000 - bits
-    } else {
-        bits
-    }
-}
-
 fn compare_powf(powf: &mut Powf, label: &str, published: &[f32], after: &[u32], written: impl Fn(usize) -> bool) {
     for (i, (a, b)) in published.iter().zip(after).enumerate().filter(|(i, _)| written(*i)) {
         let b = f32::from_bits(*b);
         if a.is_nan() != b.is_nan() || a.is_infinite() != b.is_infinite() {
             powf.kinds_differ += 1;
-            continue;
-        }
-        if !b.is_finite() {
-            continue;
-        }
-        // X from 2^32 up to 2^36 is a temperature from -17.15 up to 238.85.
-        if (-17.15..238.85).contains(&b) {
-            powf.inside += 1;
-            powf.inside_differ += u64::from(*a != b);
-            powf.inside_largest = powf.inside_largest.max((a - b).abs());
-        } else {
-            powf.outside += 1;
-            powf.outside_differ += u64::from(*a != b);
-            let places = ordered(*a).abs_diff(ordered(b)).min(u64::from(u32::MAX)) as u32;
-            if places > powf.outside_places {
-                powf.outside_places = places;
-                powf.outside_worst = format!("{label}, pixel {i}: powf {a:?}, root {b:?}");
+        } else if b.is_finite() {
+            powf.pixels += 1;
+            powf.differ += u64::from(*a != b);
+            if (a - b).abs() > powf.degrees {
+                powf.degrees = (a - b).abs();
+                powf.worst = format!("{label}, pixel {i}: powf {a:?}, root {b:?}");
             }
         }
     }
 }
 
-fn one(tally: &mut Tally, powf: &mut Powf, n: &mut Numbers, label: &str) {
+fn one(tally: &mut Tally, powf: &mut [Powf; 2], n: &mut Numbers, label: &str) {
     let (kind, f) = made(n);
     tally.count(&format!("frames, {kind}"));
     let before = destination(n, kind);
@@ -349,35 +327,22 @@ fn one(tally: &mut Tally, powf: &mut Powf, n: &mut Numbers, label: &str) {
     if judge(tally, &j, document::one_pass(&f), answer, &after, &said) {
         let mut destination = floats(&before);
         published::raw_pixels_to_temperatures(&f, &mut destination);
-        compare_powf(powf, label, &destination, &after, |i| i < count && f.mask.get(i).is_some_and(|byte| *byte != 0));
+        let class = &mut powf[usize::from(kind != "realistic")];
+        compare_powf(class, label, &destination, &after, |i| i < count && f.mask.get(i).is_some_and(|byte| *byte != 0));
     }
 }
 
 pub fn compare(tally: &mut Tally, seed: u64, frames: u64) {
-    let mut powf = Powf {
-        inside: 0,
-        inside_differ: 0,
-        inside_largest: 0.0,
-        outside: 0,
-        outside_differ: 0,
-        outside_places: 0,
-        outside_worst: String::new(),
-        kinds_differ: 0,
-    };
+    let mut powf = [Powf::default(), Powf::default()];
     for k in 0..frames {
         progress("frames", k, frames);
         let mut n = Numbers::new(seed.wrapping_mul(0x1_0000_0003).wrapping_add(k).wrapping_mul(2).wrapping_add(1));
         one(tally, &mut powf, &mut n, &format!("frame {k} of seed {seed}"));
     }
-    tally.notes.push(format!(
-        "powf as published, temperatures from -17.15 up to 238.85: {} pixels, {} differ from the root, at most by {} degrees ({} / 32768)",
-        powf.inside,
-        powf.inside_differ,
-        powf.inside_largest,
-        powf.inside_largest * 32768.0
-    ));
-    tally.notes.push(format!(
-        "powf as published, other temperatures: {} pixels, {} differ, at most by {} places ({}); {} where one is infinite or not a number and the other is not",
-        powf.outside, powf.outside_differ, powf.outside_places, powf.outside_worst, powf.kinds_differ
-    ));
+    for (what, p) in ["realistic frames", "all other frames"].iter().zip(&powf) {
+        tally.notes.push(format!(
+            "powf as published, {what}: {} temperatures, {} differ, at most by {} degrees ({}); {} where one is infinite or not a number and the other is not",
+            p.pixels, p.differ, p.degrees, p.worst, p.kinds_differ
+        ));
+    }
 }

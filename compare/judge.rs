@@ -7,6 +7,7 @@ mod document;
 mod frames;
 mod library;
 mod numbers;
+mod roots;
 mod tally;
 mod words;
 
@@ -41,6 +42,7 @@ fn main() {
     println!("seed {seed}, {cards} cards, {frames} frames, {}", std::env::consts::ARCH);
     let mut tally = Tally::new();
     words::compare(&mut tally);
+    roots::compare(&mut tally);
     cards::compare(&mut tally, seed, cards);
     frames::compare(&mut tally, seed, frames);
     tally.report();

@@ -1,104 +1,11 @@
-//! The library's calls for C, as the archive of crate `capi` has them, with the slices' lengths filled in.
+//! The library's calls through the C layer of its Rust binding, with the slices' lengths filled in.
 //! A name in `PLANTED` spoils one answer on purpose, to see that the comparison notices.
 use std::sync::OnceLock;
 
-#[repr(C)]
-#[derive(Clone, Copy, Debug, PartialEq)]
-pub struct Word {
-    pub number: u64,
-    pub place: u64,
-    pub value: u64,
-    pub word: u16,
-}
-
-#[repr(C)]
-#[derive(Clone, Copy, Debug, PartialEq)]
-pub struct Part {
-    pub start: usize,
-    pub length: usize,
-}
-
-#[repr(C)]
-#[derive(Clone, Copy, Debug)]
-pub struct Record {
-    pub k_v_ptat: f32,
-    pub k_t_ptat: f32,
-    pub v_ptat_25: f32,
-    pub alpha_ptat: f32,
-    pub gain: f32,
-    pub k_s_ta: f32,
-    pub emissivity: f32,
-    pub alpha_cp: f32,
-    pub k_v_cp: f32,
-    pub k_ta_cp: f32,
-    pub gradient: f32,
-    pub k_s_to: [f32; 8],
-    pub corner_temperatures: [i16; 8],
-    pub k_v_dd: i16,
-    pub v_dd_25: i16,
-    pub offset_reference_cp: i16,
-    pub resolution: u8,
-    pub has_gradient: u8,
-}
-
-#[repr(C)]
-#[derive(Clone, Copy, Debug)]
-pub struct Load {
-    pub number: u64,
-    pub place: u64,
-    pub value: u64,
-    pub calibration: Record,
-}
-
-#[repr(C)]
-#[derive(Clone, Copy, Debug)]
-pub struct Ram {
-    pub t_a_v_be: i16,
-    pub t_a_ptat: i16,
-    pub v_dd_pixel: i16,
-    pub gain: i16,
-    pub compensation_pixel: i16,
-}
-
-#[repr(C)]
-#[derive(Clone, Copy, Debug)]
-pub struct Answer {
-    pub number: u64,
-    pub place: u64,
-    pub value: u64,
-    pub lost: usize,
-    pub t_a: u32,
-}
-
-#[rustfmt::skip]
-#[allow(improper_ctypes)]
-extern "C" {
-    fn loamchalice_encode(data: u16) -> Word;
-    fn loamchalice_check(word: u16) -> Word;
-    fn loamchalice_alpha_row(image: *const u8, length: usize, row: usize) -> Part;
-    fn loamchalice_subpage_offsets(zero: *const i16, zero_length: usize, one: *const i16, one_length: usize, subpage: u8) -> Part;
-    fn loamchalice_load(
-        image: *const u8, length: usize, offsets0: *mut i16, offsets0_length: usize, offsets1: *mut i16, offsets1_length: usize,
-        alpha: *mut f32, alpha_length: usize, k_v: *mut f32, k_v_length: usize, k_ta: *mut f32, k_ta_length: usize,
-    ) -> Load;
-    fn loamchalice_raw_pixels_to_ir_data(
-        calibration: Record, emissivity: f32, resolution_correction: f32, v_dd_0: f32, ram: Ram, subpage: u8,
-        offsets0: *const i16, offsets0_length: usize, offsets1: *const i16, offsets1_length: usize,
-        k_v: *const f32, k_v_length: usize, k_ta: *const f32, k_ta_length: usize,
-        pixels: *const u8, pixels_length: usize, mask: *const u8, mask_length: usize, destination: *mut u32, destination_length: usize,
-    ) -> Answer;
-    fn loamchalice_raw_ir_to_temperatures(
-        calibration: Record, emissivity: f32, t_a: f32, basic_range: usize, reflected_given: u8, reflected: f32,
-        alpha: *const f32, alpha_length: usize, mask: *const u8, mask_length: usize, destination: *mut u32, destination_length: usize,
-    ) -> Answer;
-    fn loamchalice_raw_pixels_to_temperatures(
-        calibration: Record, emissivity: f32, resolution_correction: f32, v_dd_0: f32, ram: Ram, subpage: u8,
-        basic_range: usize, reflected_given: u8, reflected: f32,
-        offsets0: *const i16, offsets0_length: usize, offsets1: *const i16, offsets1_length: usize, alpha: *const f32, alpha_length: usize,
-        k_v: *const f32, k_v_length: usize, k_ta: *const f32, k_ta_length: usize,
-        pixels: *const u8, pixels_length: usize, mask: *const u8, mask_length: usize, destination: *mut u32, destination_length: usize,
-    ) -> Answer;
-}
+#[path = "../bindings/rust/src/border.rs"]
+mod border;
+use border::*;
+pub use border::{Answer, Load, Part, Ram, Record, Word};
 
 /// The five tables of a card.
 #[derive(Clone, Debug)]
@@ -142,6 +49,14 @@ pub static PLANTED: OnceLock<String> = OnceLock::new();
 
 fn planted(name: &str) -> bool {
     PLANTED.get().is_some_and(|given| given == name)
+}
+
+pub fn root(x: f32) -> u32 {
+    let bits = unsafe { loamchalice_root(x) };
+    if planted("root-minus-infinity") && x == f32::NEG_INFINITY {
+        return 0x7FC0_0000;
+    }
+    bits
 }
 
 pub fn encode(data: u16) -> Word {

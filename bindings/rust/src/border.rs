@@ -1,11 +1,19 @@
 //! The archive's calls for C. Slices are a pointer and a count of entries.
 
 #[repr(C)]
+#[derive(Clone, Copy, Debug, PartialEq)]
 pub struct Word {
     pub number: u64,
     pub place: u64,
     pub value: u64,
     pub word: u16,
+}
+
+#[repr(C)]
+#[derive(Clone, Copy, Debug, PartialEq)]
+pub struct Part {
+    pub start: usize,
+    pub length: usize,
 }
 
 #[repr(C)]
@@ -32,6 +40,7 @@ pub struct Record {
 }
 
 #[repr(C)]
+#[derive(Clone, Copy, Debug)]
 pub struct Load {
     pub number: u64,
     pub place: u64,
@@ -40,6 +49,7 @@ pub struct Load {
 }
 
 #[repr(C)]
+#[derive(Clone, Copy, Debug)]
 pub struct Ram {
     pub t_a_v_be: i16,
     pub t_a_ptat: i16,
@@ -49,6 +59,7 @@ pub struct Ram {
 }
 
 #[repr(C)]
+#[derive(Clone, Copy, Debug)]
 pub struct Answer {
     pub number: u64,
     pub place: u64,
@@ -59,8 +70,11 @@ pub struct Answer {
 
 #[rustfmt::skip]
 extern "C" {
+    pub fn loamchalice_root(x: f32) -> u32;
     pub fn loamchalice_encode(data: u16) -> Word;
     pub fn loamchalice_check(word: u16) -> Word;
+    pub fn loamchalice_alpha_row(image: *const u8, length: usize, row: usize) -> Part;
+    pub fn loamchalice_subpage_offsets(zero: *const i16, zero_length: usize, one: *const i16, one_length: usize, subpage: u8) -> Part;
     pub fn loamchalice_load(
         image: *const u8, length: usize, offsets0: *mut i16, offsets0_length: usize, offsets1: *mut i16, offsets1_length: usize,
         alpha: *mut f32, alpha_length: usize, k_v: *mut f32, k_v_length: usize, k_ta: *mut f32, k_ta_length: usize,

@@ -103,6 +103,43 @@ pub fn validate_checksum(word: u16) -> Result<u16, Refusal> {
     Refusal::of(answer.number, answer.place, answer.value).map_or(Ok(answer.word), Err)
 }
 
+/// The 64 bytes of a row of alpha, 0 to 5, as a part of the image; none for a higher row or an image below 1,664 bytes.
+///
+/// ```
+/// let card = include_bytes!("../../../cards/sound.bin");
+/// assert_eq!(loamchalice::alpha_row(card, 1), &card[576..640]);
+/// assert!(loamchalice::alpha_row(card, 6).is_empty());
+/// ```
+pub fn alpha_row(image: &[u8], row: usize) -> &[u8] {
+    let part = unsafe { border::loamchalice_alpha_row(image.as_ptr(), image.len(), row) };
+    &image[part.start..part.start + part.length]
+}
+
+/// The offsets of a subpage, as a part of one of two tables: its first 192, or none if it is shorter.
+///
+/// ```
+/// use loamchalice::{subpage_offsets, Subpage};
+/// assert_eq!(subpage_offsets(&[0; 200], &[7; 191], Subpage::Zero), &[0; 192]);
+/// assert!(subpage_offsets(&[0; 200], &[7; 191], Subpage::One).is_empty());
+/// ```
+pub fn subpage_offsets<'a>(zero: &'a [i16], one: &'a [i16], subpage: Subpage) -> &'a [i16] {
+    let part = unsafe { border::loamchalice_subpage_offsets(zero.as_ptr(), zero.len(), one.as_ptr(), one.len(), subpage as u8) };
+    let table = match subpage {
+        Subpage::Zero => zero,
+        Subpage::One => one,
+    };
+    &table[part.start..part.start + part.length]
+}
+
+/// The fourth root: two square roots, each the nearest f32. Both infinities give infinity, a number below zero gives not a number.
+///
+/// ```
+/// assert_eq!(loamchalice::fourth_root(81.0), 3.0);
+/// ```
+pub fn fourth_root(x: f32) -> f32 {
+    f32::from_bits(unsafe { border::loamchalice_root(x) })
+}
+
 /// A card's record and tables.
 #[derive(Clone, Debug)]
 pub struct Calibration {
