@@ -1,8 +1,8 @@
--- `frame_runs::kept` is safe and ends: the index stays below the destination's 200 entries. Assumes nothing.
+-- `frame_case::kept` is safe and ends: the index stays below the destination's 200 entries. Assumes nothing.
 use Prim.Native.Nat.{_≤_, _-_}
 use borrow.Author.Needs.{needs}
-use Rattle.frame_runs.proofs.kept.Statement.{statement}
-use Rattle.frame_runs.proofs.kept.Tie as tie
+use Rattle.frame_case.proofs.kept.Statement.{statement}
+use Rattle.frame_case.proofs.kept.Tie as tie
 
 abbrev Inv-loop : tie.InvT-loop
 Inv-loop destination rest n₀ i₀ n i = i ≤ 200

@@ -1,10 +1,10 @@
--- `frame_runs::bytes` is safe: the part ends within the list. Assumes nothing.
+-- `frame_case::bytes` is safe: the part ends within the list. Assumes nothing.
 use mathlib.Core.Path.{sym}
 use native.Mathlib.Omega.{arith}
 use lib.Seq.{length-take-le}
 use borrow.Author.Needs.{needs}
-use Rattle.frame_runs.proofs.bytes.Statement.{statement}
-use Rattle.frame_runs.proofs.bytes.Tie as tie
+use Rattle.frame_case.proofs.bytes.Statement.{statement}
+use Rattle.frame_case.proofs.bytes.Tie as tie
 
 pub bytes-spec : {M : Type 1} → statement M
 bytes-spec =

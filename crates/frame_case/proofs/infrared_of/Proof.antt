@@ -1,10 +1,10 @@
--- `frame_runs::infrared_of` is safe: the part that it lends ends within the destination. Assumes nothing.
+-- `frame_case::infrared_of` is safe: the part that it lends ends within the destination. Assumes nothing.
 use mathlib.Core.Path.{sym}
 use native.Mathlib.Omega.{arith}
 use lib.Seq.{length-take-le}
 use borrow.Author.Needs.{needs}
-use Rattle.frame_runs.proofs.infrared_of.Statement.{statement}
-use Rattle.frame_runs.proofs.infrared_of.Tie as tie
+use Rattle.frame_case.proofs.infrared_of.Statement.{statement}
+use Rattle.frame_case.proofs.infrared_of.Tie as tie
 
 pub infrared-of-spec : {M : Type 1} → statement M
 infrared-of-spec =

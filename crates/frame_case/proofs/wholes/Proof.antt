@@ -1,10 +1,10 @@
--- `frame_runs::wholes` is safe: the part ends within the table. Assumes nothing.
+-- `frame_case::wholes` is safe: the part ends within the table. Assumes nothing.
 use mathlib.Core.Path.{sym}
 use native.Mathlib.Omega.{arith}
 use lib.Seq.{length-take-le}
 use borrow.Author.Needs.{needs}
-use Rattle.frame_runs.proofs.wholes.Statement.{statement}
-use Rattle.frame_runs.proofs.wholes.Tie as tie
+use Rattle.frame_case.proofs.wholes.Statement.{statement}
+use Rattle.frame_case.proofs.wholes.Tie as tie
 
 pub wholes-spec : {M : Type 1} → statement M
 wholes-spec =

@@ -1,10 +1,10 @@
--- `frame_runs::reals` is safe: the part ends within the table. Assumes nothing.
+-- `frame_case::reals` is safe: the part ends within the table. Assumes nothing.
 use mathlib.Core.Path.{sym}
 use native.Mathlib.Omega.{arith}
 use lib.Seq.{length-take-le}
 use borrow.Author.Needs.{needs}
-use Rattle.frame_runs.proofs.reals.Statement.{statement}
-use Rattle.frame_runs.proofs.reals.Tie as tie
+use Rattle.frame_case.proofs.reals.Statement.{statement}
+use Rattle.frame_case.proofs.reals.Tie as tie
 
 pub reals-spec : {M : Type 1} → statement M
 reals-spec =
