@@ -1,0 +1,42 @@
+-- What the border says admits one answer: the inner calls' single answers, carried across. Assumes nothing.
+use Prim.Native.Nat.{ℕ}
+use mathlib.Core.Path.{_≡_, ap, sym, _∙_}
+use mathlib.Core.List.{List}
+use lib.IntN.{ℤ}
+use lib.Ieee.{Float}
+use Rattle.eeprom.proofs.Single.{single}
+use Rattle.calculations.specs.declared.Frame.{Frame}
+use Rattle.calculations.specs.Frames.{IrCall, ToCall, PassCall, Infrareds, Temperatures, Passes}
+use Rattle.calculations.proofs.Single.{single-infrared, single-temperatures, single-pass}
+use Rattle.capi.specs.declared.Answer.{Answer}
+use Rattle.capi.specs.declared.Load.{Load}
+use Rattle.capi.specs.Border.{loadedOut, frameOut, Loading, Carried}
+
+pub single-loading : {image : List ℕ} {o0 o1 : List ℤ} {a v t : List Float} {x0 x1 y0 y1 : List ℤ} {xa xv xt ya yv yt : List Float} {r q : Load}
+    → Loading image o0 o1 a v t x0 x1 xa xv xt r → Loading image o0 o1 a v t y0 y1 ya yv yt q
+    → (r ≡ q) × (x0 ≡ y0) × (x1 ≡ y1) × (xa ≡ ya) × (xv ≡ yv) × (xt ≡ yt)
+single-loading p s =
+    let e = single (p .loads) (s .loads) in
+    (p .out ∙ ap loadedOut (e .0) ∙ sym (s .out), e .1, e .2, e .3, e .4, e .5)
+
+-- where any two answers of an inner call are one, so are C's
+carried : (P Q : Frame → Type 0) {r q : Answer} → ((a b : Frame) → P a → Q b → a ≡ b) → Carried P r → Carried Q q → r ≡ q
+carried P Q one p s = p .out ∙ ap frameOut (one _ _ (p .kept) (s .kept)) ∙ sym (s .out)
+
+pub single-infrared-out : (f : IrCall) (d x y : List ℕ) (r q : Answer) → Carried (Infrareds f d x) r → Carried (Infrareds f d y) q → (r ≡ q) × (x ≡ y)
+single-infrared-out f d x y r q p s = (
+  carried (Infrareds f d x) (Infrareds f d y) (λ a b m n. single-infrared f d x y a b m n .0) p s,
+  single-infrared f d x y _ _ (p .kept) (s .kept) .1,
+)
+
+pub single-temperatures-out : (f : ToCall) (d x y : List ℕ) (r q : Answer) → Carried (Temperatures f d x) r → Carried (Temperatures f d y) q → (r ≡ q) × (x ≡ y)
+single-temperatures-out f d x y r q p s = (
+  carried (Temperatures f d x) (Temperatures f d y) (λ a b m n. single-temperatures f d x y a b m n .0) p s,
+  single-temperatures f d x y _ _ (p .kept) (s .kept) .1,
+)
+
+pub single-pass-out : (f : PassCall) (d x y : List ℕ) (r q : Answer) → Carried (Passes f d x) r → Carried (Passes f d y) q → (r ≡ q) × (x ≡ y)
+single-pass-out f d x y r q p s = (
+  carried (Passes f d x) (Passes f d y) (λ a b m n. single-pass f d x y a b m n .0) p s,
+  single-pass f d x y _ _ (p .kept) (s .kept) .1,
+)
