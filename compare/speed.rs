@@ -45,6 +45,12 @@ macro_rules! subject {
             }
 
             #[inline(never)]
+            pub fn temperatures(c: &Mlx90641Calibration, f: &Frame, t_a: f32, destination: &mut [f32]) {
+                let mut valid = Mlx90641::pixels_in_subpage(Subpage::Zero, AccessPattern::Interleave);
+                calculations::raw_ir_to_temperatures(c, f.emissivity, t_a, f.reflected, Subpage::Zero, &mut valid, destination)
+            }
+
+            #[inline(never)]
             pub fn infrared(c: &Mlx90641Calibration, f: &Frame, destination: &mut [f32]) -> f32 {
                 let pattern = AccessPattern::Interleave;
                 let mut valid = Mlx90641::pixels_in_subpage(Subpage::Zero, pattern);
@@ -112,8 +118,11 @@ fn main() {
         assert!(a.iter().zip(&b).all(|(x, y)| x.to_bits() == *y), "the same pixels");
         assert!(a.iter().all(|t| (0.0..60.0).contains(t)), "a room: {a:?}");
     }
+    let t_a = published::infrared(&p, &frames[0], &mut a);
+    let v_ir = a;
+    let v_ir_bits = v_ir.map(f32::to_bits);
     let mut tables = frames[0].tables.clone();
-    let mut least = [[f64::MAX; 3]; 3];
+    let mut least = [[f64::MAX; 3]; 4];
     let keep = |slot: &mut f64, t: f64| *slot = slot.min(t);
     for _ in 0..ROUNDS {
         let pass = &mut least[0];
@@ -124,13 +133,19 @@ fn main() {
         keep(&mut infrared[0], time(FRAMES, |k| { black_box(published::infrared(&p, black_box(&frames[k % 16]), black_box(&mut a))); }));
         keep(&mut infrared[1], time(FRAMES, |k| { black_box(rooted::infrared(&r, black_box(&frames[k % 16]), black_box(&mut a))); }));
         keep(&mut infrared[2], time(FRAMES, |k| { black_box(library::raw_pixels_to_ir_data(black_box(&frames[k % 16]), black_box(&mut b))); }));
-        let load = &mut least[2];
+        // In place, so each frame's numbers are put there again.
+        let onward = &mut least[2];
+        keep(&mut onward[0], time(FRAMES, |k| { a = v_ir; published::temperatures(&p, black_box(&frames[k % 16]), t_a, black_box(&mut a)); }));
+        keep(&mut onward[1], time(FRAMES, |k| { a = v_ir; rooted::temperatures(&r, black_box(&frames[k % 16]), t_a, black_box(&mut a)); }));
+        keep(&mut onward[2], time(FRAMES, |k| { b = v_ir_bits; black_box(library::raw_ir_to_temperatures(black_box(&frames[k % 16]), t_a, black_box(&mut b))); }));
+        let load = &mut least[3];
         keep(&mut load[0], time(LOADS, |_| { black_box(published::load(black_box(IMAGE))); }));
         keep(&mut load[1], time(LOADS, |_| { black_box(rooted::load(black_box(IMAGE))); }));
         keep(&mut load[2], time(LOADS, |_| { black_box(library::load(black_box(IMAGE), black_box(&mut tables))); }));
     }
     println!("least of {ROUNDS} rounds; {FRAMES} frames and {LOADS} loads in each");
     line("one pass, a frame", least[0]);
-    line("infrared alone, a frame", least[1]);
-    line("load, a card", least[2]);
+    line("of it, pixels to infrared", least[1]);
+    line("of it, infrared to temperature", least[2]);
+    line("load, a card", least[3]);
 }

@@ -24,9 +24,9 @@ use Rattle.formulas.specs.declared.CommonToData.{CommonToData}
 use Rattle.formulas.specs.declared.Pixel.the-variants.{Temperature, Lost}
 use Rattle.formulas.specs.Pixel.{answerOf, temperatureOf, finalOf}
 use Rattle.calculations.specs.declared.Frame.{Frame}
-use Rattle.calculations.specs.Pixels.{touched, countOf, infraredAt, answerAt, answersInto, bitsOf, held}
+use Rattle.calculations.specs.Pixels.{touched, countOf, infraredAt, answerAt, finalAt, answersInto, bitsOf, held}
 use Rattle.calculations.specs.Frames.{ToCall, PassCall, shared, onward, reads, toCount, Temperatures, Passes}
-use Rattle.calculations.specs.Demand.{finalAt, finalTo, finalIn, HotTo, HotPass}
+use Rattle.calculations.specs.Demand.{finalTo, finalIn, HotTo, HotPass}
 
 final-fits : (c : CommonToData) (alpha : List Float) (v : ℕ → Float) (k : ℕ) → T (fits binary32 (finalAt c alpha v k))
 unfolding finalAt finalOf

@@ -1,5 +1,5 @@
 -- A loop over pixels: what holds at each turn, and one pixel more: left, written as a number, or written as the pattern and counted.
--- Over any mask, values and test for what is lost. Assumes nothing.
+-- Over any mask, values of any kind, and test for what is lost. Assumes nothing.
 use Prim.Native.Nat.{ℕ, _+_, _≤_, _<_}
 use mathlib.Core.Path.{_≡_, refl, ap, sym, _∙_}
 use mathlib.Core.Bool.{Bool, true, false, _&&_}
@@ -13,15 +13,15 @@ use Rattle.lists.specs.Count.{countBelow}
 use Rattle.lists.proofs.Written.{skipped, stored}
 
 -- of n pixels, i are done
-pub record Running (touch : ℕ → Bool) (val : ℕ → ℕ) (loses : ℕ → Bool) (n : ℕ) (d₀ d : List ℕ) (lost i : ℕ) : Type 0 where
+pub record Running {A : Type 0} (touch : ℕ → Bool) (val : ℕ → A) (loses : ℕ → Bool) (n : ℕ) (d₀ d : List A) (lost i : ℕ) : Type 0 where
   pub within : i ≤ n
   pub few : lost ≤ i
   pub long : length d ≡ length d₀
   pub list : d ≡ written touch val i d₀
   pub count : lost ≡ countBelow (λ (k : ℕ). touch k && loses k) i
 
-module _ (touch : ℕ → Bool) (val : ℕ → ℕ) (loses : ℕ → Bool) where
-  pub start : (n : ℕ) (d : List ℕ) → Running touch val loses n d d 0 0
+module _ {A : Type 0} (touch : ℕ → Bool) (val : ℕ → A) (loses : ℕ → Bool) where
+  pub start : (n : ℕ) (d : List A) → Running touch val loses n d d 0 0
   unfolding written countBelow
   start n d = record { within = omega arith; few = omega arith; long = refl; list = refl; count = refl }
 
@@ -30,7 +30,7 @@ module _ (touch : ℕ → Bool) (val : ℕ → ℕ) (loses : ℕ → Bool) where
   unfolding countBelow
   more i b e = rw (add-one i, e)
 
-  module _ {n : ℕ} {d₀ d : List ℕ} {lost i : ℕ} (r : Running touch val loses n d₀ d lost i) (h : i < n) where
+  module _ {n : ℕ} {d₀ d : List A} {lost i : ℕ} (r : Running touch val loses n d₀ d lost i) (h : i < n) where
     pub kept : touch i ≡ false → Running touch val loses n d₀ d lost (i + 1)
     kept w = record {
       within = omega arith;
@@ -40,7 +40,7 @@ module _ (touch : ℕ → Bool) (val : ℕ → ℕ) (loses : ℕ → Bool) where
       count = r .count ∙ sym (more i false (ap (λ (b : Bool). b && loses i) w) ∙ omega arith);
     }
 
-    pub missed : {v : ℕ} → touch i ≡ true → loses i ≡ true → v ≡ val i → Running touch val loses n d₀ (set d i v) (lost + 1) (i + 1)
+    pub missed : {v : A} → touch i ≡ true → loses i ≡ true → v ≡ val i → Running touch val loses n d₀ (set d i v) (lost + 1) (i + 1)
     missed {v} w l e = record {
       within = omega arith;
       few = omega arith;
@@ -49,7 +49,7 @@ module _ (touch : ℕ → Bool) (val : ℕ → ℕ) (loses : ℕ → Bool) where
       count = ap (λ (k : ℕ). k + 1) (r .count) ∙ sym (more i true (rw (w, l)));
     }
 
-    pub told : {v : ℕ} → touch i ≡ true → loses i ≡ false → v ≡ val i → Running touch val loses n d₀ (set d i v) lost (i + 1)
+    pub told : {v : A} → touch i ≡ true → loses i ≡ false → v ≡ val i → Running touch val loses n d₀ (set d i v) lost (i + 1)
     told {v} w l e = record {
       within = omega arith;
       few = omega arith;

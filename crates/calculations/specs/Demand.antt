@@ -4,18 +4,12 @@ use mathlib.Core.Path.{_≡_}
 use mathlib.Core.Bool.{true}
 use mathlib.Core.List.{List}
 use lib.Dec.{T}
-use lib.ListN.{getD, length}
-use lib.Ieee.{Float, nan, le, lt}
+use lib.ListN.{length}
+use lib.Ieee.{Float, le, lt}
 use Rattle.floats.specs.Floats.{powerOfTwo}
 use Rattle.refusal.specs.declared.Verdict.the-variants.{Pass}
-use Rattle.formulas.specs.declared.CommonToData.{CommonToData}
-use Rattle.formulas.specs.Pixel.{compensatedOf, finalOf}
-use Rattle.calculations.specs.Pixels.{touched, countOf, infraredAt, held}
+use Rattle.calculations.specs.Pixels.{touched, countOf, infraredAt, finalAt, held}
 use Rattle.calculations.specs.Frames.{ToCall, PassCall, shared, onward, reads, toVerdict, passVerdict, toCount}
-
--- document 01's X of pixel k, the final value under the fourth root, of infrared v and sensitivity alpha
-unfoldable pub finalAt : CommonToData → List Float → (ℕ → Float) → ℕ → Float
-finalAt c alpha v k = finalOf (v k) (compensatedOf (getD alpha k nan) c) c
 
 -- X in a call from infrared to temperature, whose infrared numbers the destination d holds
 abbrev pub finalTo : ToCall → List ℕ → ℕ → Float

@@ -17,7 +17,8 @@ use Rattle.formulas.specs.declared.Less.{Less}
 use Rattle.formulas.specs.declared.Pixel.{Pixel}
 use Rattle.formulas.specs.declared.Pixel.the-variants.{Temperature, Lost}
 use Rattle.formulas.specs.Frame.{lessOf}
-use Rattle.formulas.specs.Pixel.{infraredOf, answerOf}
+use Rattle.root.specs.Root.{celsius}
+use Rattle.formulas.specs.Pixel.{infraredOf, compensatedOf, finalOf, decided, answerOf}
 
 -- mask byte i belongs to pixel i: 0, or none left, means leave it
 unfoldable pub touched : List ℕ → ℕ → Bool
@@ -55,6 +56,14 @@ infraredAt f i =
 -- what pixel i of infrared v gives
 unfoldable pub answerAt : CommonToData → List Float → (ℕ → Float) → ℕ → Pixel
 answerAt c alpha v i = answerOf (v i) (getD alpha i nan) c
+
+-- document 01's X of pixel k, the final value under the fourth root, of infrared v and sensitivity alpha
+unfoldable pub finalAt : CommonToData → List Float → (ℕ → Float) → ℕ → Float
+finalAt c alpha v k = finalOf (v k) (compensatedOf (getD alpha k nan) c) c
+
+-- what pixel k of infrared v gives, where `values` holds its X
+unfoldable pub decidedAt : List Float → (ℕ → Float) → ℕ → Pixel
+decidedAt values v k = decided (celsius (getD values k nan)) (v k)
 
 -- what had no temperature is written as the pattern of a not-a-number, and counts as lost
 abbrev pub bitsOf : Pixel → ℕ

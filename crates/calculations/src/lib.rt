@@ -1,10 +1,13 @@
 // The three frame calls: pixels to infrared, infrared to temperature, and both in one pass.
 ghost use mathlib.Core.Path.{_≡_};
-ghost use Prim.Native.Nat.{min, _+_, _*_, _<_, _≤_};
+ghost use Prim.Native.Nat.{_+_, _*_, _<_, _≤_};
+ghost use mathlib.Core.Bool.{_&&_};
 ghost use lib.ListN.{length, getD};
 ghost use lib.Ieee.{nan};
+ghost use Rattle.lists.specs.Written.{written};
+ghost use Rattle.lists.specs.Count.{countBelow};
 ghost use Rattle.floats.specs.Floats.{whole};
-ghost use Rattle.calculations.specs.Pixels.{touched, countOf, readingAt, raw, infraredAt, infraredInto, infraredLost, answersInto, answersLost, held};
+ghost use Rattle.calculations.specs.Pixels.{touched, countOf, readingAt, raw, infraredAt, infraredInto, infraredLost, answersInto, answersLost, held, bitsOf, isLost, finalAt, decidedAt};
 ghost use Rattle.calculations.specs.Frames.{irCall, toCall, passCall, Infrareds, Temperatures, Passes};
 use calibration::Calibration;
 use eeprom::Subpage;
@@ -25,12 +28,6 @@ pub enum Frame {
     Refused(Refusal),
 }
 
-fn least(a: usize, b: usize) -> usize
-    ensures { λ r. ⌜ r ≡ min a b ⌝ }
-{
-    if a < b { a } else { b }
-}
-
 // Whether the mask asks for pixel i: no byte left is as 0.
 fn masked(mask: &[u8], i: usize) -> bool
     ensures { λ r. ⌜ r ≡ touched (now (mask .entry)) i ⌝ }
@@ -47,7 +44,7 @@ fn masked(mask: &[u8], i: usize) -> bool
 fn pixel_count(destination: usize, bytes: usize) -> usize
     ensures { λ r. ⌜ r ≡ countOf destination bytes ⌝ }
 {
-    least(192, least(destination, bytes / 2))
+    util::least(192, util::least(destination, bytes / 2))
 }
 
 // Pixel i's reading as a number.
@@ -118,17 +115,33 @@ fn infrared_pixels(
     lost
 }
 
-// Pixels 0 to n - 1 of infrared numbers to temperatures, in place. Answers how many had none.
-fn temperature_pixels(
+// The final values of pixels 0 to n - 1, from the infrared numbers whose bits are lent.
+fn final_values(
     common: CommonToData,
     mask: &[u8],
     alpha: &[f32],
-    destination: &mut [u32],
+    infrared: &[u32],
+    values: &mut [f32],
     n: usize,
-) -> usize
-    requires { ⌜ (n ≤ length (now destination)) × (n ≤ length (now alpha)) ⌝ }
-    ensures { λ r. ⌜ r ≡ answersLost (now (mask .entry)) common (now (alpha .entry)) (held (now (destination .entry))) n ⌝ }
-    ensures { λ r. ⌜ now (destination .exit) ≡ answersInto (now (mask .entry)) common (now (alpha .entry)) (held (now (destination .entry))) n (now (destination .entry)) ⌝ }
+)
+    requires { ⌜ (n ≤ length (now alpha)) × (n ≤ length (now infrared)) × (n ≤ length (now values)) ⌝ }
+    ensures { λ r. ⌜ now (values .exit) ≡ written (touched (now (mask .entry))) (finalAt common (now (alpha .entry)) (held (now (infrared .entry)))) n (now (values .entry)) ⌝ }
+{
+    for p in 0..n {
+        if !masked(mask, p) {
+            continue;
+        }
+        let v_ir = floats::from_bits(infrared[p]);
+        let compensated = formulas::compensated_alpha(alpha[p], common);
+        values[p] = formulas::final_value(v_ir, compensated, common);
+    }
+}
+
+// Pixels 0 to n - 1 of infrared numbers to temperatures, in place, from their final values. Answers how many had none.
+fn answer_pixels(mask: &[u8], values: &[f32], destination: &mut [u32], n: usize) -> usize
+    requires { ⌜ (n ≤ length (now values)) × (n ≤ length (now destination)) ⌝ }
+    ensures { λ r. ⌜ r ≡ countBelow (λ k. touched (now (mask .entry)) k && isLost (decidedAt (now (values .entry)) (held (now (destination .entry))) k)) n ⌝ }
+    ensures { λ r. ⌜ now (destination .exit) ≡ written (touched (now (mask .entry))) (λ k. bitsOf (decidedAt (now (values .entry)) (held (now (destination .entry))) k)) n (now (destination .entry)) ⌝ }
 {
     let mut lost: usize = 0;
     for k in 0..n {
@@ -136,7 +149,7 @@ fn temperature_pixels(
             continue;
         }
         let v_ir = floats::from_bits(destination[k]);
-        let answer = formulas::pixel_answer(v_ir, alpha[k], common);
+        let answer = formulas::pixel_answer(v_ir, values[k]);
         let Pixel::Temperature(t) = answer else {
             destination[k] = 0x7FC0_0000;
             lost += 1;
@@ -147,40 +160,22 @@ fn temperature_pixels(
     lost
 }
 
-// Pixels 0 to n - 1 as temperatures into the destination. Answers how many had none.
-fn one_pass_pixels(
-    common_ir: CommonIrData,
-    term: Less,
-    common_to: CommonToData,
+// Pixels 0 to n - 1 of infrared numbers to temperatures, in place. Answers how many had none.
+// Each pixel has two roots, one inside the other: apart, many pixels are under way at once.
+fn temperature_pixels(
+    common: CommonToData,
     mask: &[u8],
-    pixels: &[u8],
-    offsets: &[Offset],
     alpha: &[f32],
-    k_v: &[f32],
-    k_ta: &[f32],
     destination: &mut [u32],
     n: usize,
 ) -> usize
-    requires { ⌜ (n ≤ length (now destination)) × (n * 2 ≤ length (now pixels)) ⌝ }
-    requires { ⌜ (n ≤ length (now offsets)) × (n ≤ length (now alpha)) × (n ≤ length (now «k_v»)) × (n ≤ length (now «k_ta»)) ⌝ }
-    ensures { λ r. ⌜ r ≡ answersLost (now (mask .entry)) «common_to» (now (alpha .entry)) (infraredAt (raw «common_ir» term (now (pixels .entry)) (now (offsets .entry)) (now («k_v» .entry)) (now («k_ta» .entry)))) n ⌝ }
-    ensures { λ r. ⌜ now (destination .exit) ≡ answersInto (now (mask .entry)) «common_to» (now (alpha .entry)) (infraredAt (raw «common_ir» term (now (pixels .entry)) (now (offsets .entry)) (now («k_v» .entry)) (now («k_ta» .entry)))) n (now (destination .entry)) ⌝ }
+    requires { ⌜ (n ≤ 192) × (n ≤ length (now destination)) × (n ≤ length (now alpha)) ⌝ }
+    ensures { λ r. ⌜ r ≡ answersLost (now (mask .entry)) common (now (alpha .entry)) (held (now (destination .entry))) n ⌝ }
+    ensures { λ r. ⌜ now (destination .exit) ≡ answersInto (now (mask .entry)) common (now (alpha .entry)) (held (now (destination .entry))) n (now (destination .entry)) ⌝ }
 {
-    let mut lost: usize = 0;
-    for p in 0..n {
-        if !masked(mask, p) {
-            continue;
-        }
-        let v_ir = infrared_at(common_ir, term, pixels, offsets, k_v, k_ta, p);
-        let answer = formulas::pixel_answer(v_ir, alpha[p], common_to);
-        let Pixel::Temperature(t) = answer else {
-            destination[p] = 0x7FC0_0000;
-            lost += 1;
-            continue;
-        };
-        destination[p] = floats::to_bits(t);
-    }
-    lost
+    let mut values = [0.0f32; 192];
+    final_values(common, mask, alpha, destination, &mut values, n);
+    answer_pixels(mask, &values, destination, n)
 }
 
 // K_sTo of the basic range.
@@ -210,9 +205,9 @@ pub fn raw_pixels_to_ir_data<'a>(
     ensures { λ r. ⌜ Infrareds (irCall calibration emissivity supply ram subpage (now (offsets0 .entry)) (now (offsets1 .entry)) (now («k_v» .entry)) (now («k_ta» .entry)) (now (pixels .entry)) (now (mask .entry)))
         (now (destination .entry)) (now (destination .exit)) r ⌝ }
 {
-    let shortest = least(
-        least(offsets0.len(), offsets1.len()),
-        least(k_v.len(), k_ta.len()),
+    let shortest = util::least(
+        util::least(offsets0.len(), offsets1.len()),
+        util::least(k_v.len(), k_ta.len()),
     );
     let verdict = gates::infrared_gate(calibration, emissivity, ram, shortest);
     if let Verdict::Refused(refusal) = verdict {
@@ -260,7 +255,7 @@ pub fn raw_ir_to_temperatures(
     }
     let k_s_to = basic_k_s_to(calibration, basic_range);
     let common = formulas::common_to_data(calibration, emissivity, t_a, reflected, k_s_to);
-    let n = least(192, destination.len());
+    let n = util::least(192, destination.len());
     let lost = temperature_pixels(common, mask, alpha, destination, n);
     Frame::Done {
         t_a: floats::to_bits(t_a),
@@ -289,9 +284,9 @@ pub fn raw_pixels_to_temperatures<'a>(
     ensures { λ r. ⌜ Passes (passCall (irCall calibration emissivity supply ram subpage (now (offsets0 .entry)) (now (offsets1 .entry)) (now («k_v» .entry)) (now («k_ta» .entry)) (now (pixels .entry)) (now (mask .entry))) «basic_range» reflected (now (alpha .entry)))
         (now (destination .entry)) (now (destination .exit)) r ⌝ }
 {
-    let shortest = least(
-        least(offsets0.len(), offsets1.len()),
-        least(alpha.len(), least(k_v.len(), k_ta.len())),
+    let shortest = util::least(
+        util::least(offsets0.len(), offsets1.len()),
+        util::least(alpha.len(), util::least(k_v.len(), k_ta.len())),
     );
     let verdict = gates::one_pass_gate(calibration, emissivity, ram, basic_range, shortest);
     if let Verdict::Refused(refusal) = verdict {
@@ -305,19 +300,18 @@ pub fn raw_pixels_to_temperatures<'a>(
     let common_to = formulas::common_to_data(calibration, emissivity, t_a, reflected, k_s_to);
     let asked = eeprom::subpage_offsets(offsets0, offsets1, subpage);
     let n = pixel_count(destination.len(), pixels.len());
-    let lost = one_pass_pixels(
+    infrared_pixels(
         common_ir,
         term,
-        common_to,
         mask,
         pixels,
         asked,
-        alpha,
         k_v,
         k_ta,
         destination,
         n,
     );
+    let lost = temperature_pixels(common_to, mask, alpha, destination, n);
     Frame::Done {
         t_a: floats::to_bits(t_a),
         lost,

@@ -375,13 +375,13 @@ pub extern "C" fn loamchalice_raw_pixels_to_ir_data<'a>(
         v_dd_0,
     };
     let words = ram_in(ram);
-    let which = subpage_of(subpage);
+    let page = subpage_of(subpage);
     let infrared = calculations::raw_pixels_to_ir_data(
         inner,
         emissivity,
         supply,
         words,
-        which,
+        page,
         offsets0,
         offsets1,
         k_v,
@@ -410,13 +410,13 @@ pub extern "C" fn loamchalice_raw_ir_to_temperatures(
         (now (destination .entry)) (now (destination .exit))) r ⌝ }
 {
     let inner = record_in(calibration);
-    let source = reflected_in(reflected_given, reflected);
+    let around = reflected_in(reflected_given, reflected);
     let temperatures = calculations::raw_ir_to_temperatures(
         inner,
         emissivity,
         t_a,
         basic_range,
-        source,
+        around,
         alpha,
         mask,
         destination,
@@ -454,14 +454,14 @@ pub extern "C" fn loamchalice_raw_pixels_to_temperatures<'a>(
         v_dd_0,
     };
     let words = ram_in(ram);
-    let which = subpage_of(subpage);
+    let asked = subpage_of(subpage);
     let source = reflected_in(reflected_given, reflected);
     let passed = calculations::raw_pixels_to_temperatures(
         inner,
         emissivity,
         supply,
         words,
-        which,
+        asked,
         basic_range,
         source,
         offsets0,

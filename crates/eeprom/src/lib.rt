@@ -28,12 +28,6 @@ pub enum Subpage {
     One,
 }
 
-fn least(a: usize, b: usize) -> usize
-    ensures { λ r. ⌜ r ≡ min a b ⌝ }
-{
-    if a < b { a } else { b }
-}
-
 // Refusals 4 and 5, of the data of a card's words.
 fn offsets_gate(words: &[u16; 832]) -> Verdict
     ensures { λ r. ⌜ r ≡ offsetsVerdict (at (now (words .entry))) ⌝ }
@@ -107,9 +101,9 @@ pub fn load(
     ensures { λ r. ⌜ Loads (now (image .entry)) (now (offsets0 .entry)) (now (offsets1 .entry)) (now (alpha .entry)) (now («k_v» .entry)) (now («k_ta» .entry))
         (now (offsets0 .exit)) (now (offsets1 .exit)) (now (alpha .exit)) (now («k_v» .exit)) (now («k_ta» .exit)) r ⌝ }
 {
-    let shortest = least(
-        least(offsets0.len(), offsets1.len()),
-        least(alpha.len(), least(k_v.len(), k_ta.len())),
+    let shortest = util::least(
+        util::least(offsets0.len(), offsets1.len()),
+        util::least(alpha.len(), util::least(k_v.len(), k_ta.len())),
     );
     let mut words = [0u16; 832];
     let verdict = gate(image, shortest, &mut words);

@@ -1,7 +1,8 @@
 // The formulas of a frame, in document 01's order of operations, each step an f32 rounded once. Every function is total.
 ghost use mathlib.Core.Path.{_≡_};
+ghost use Rattle.root.specs.Root.{celsius};
 ghost use Rattle.formulas.specs.Frame.{deltaOf, supplyOf, denominatorOf, artOf, correctionOf, ambientOf, commonOf, lessOf};
-ghost use Rattle.formulas.specs.Pixel.{infraredOf, termOf, fourth, reflectedOf, tArOf, sensitivityOf, alphaTermOf, commonToOf, compensatedOf, finalOf, temperatureOf, answerOf};
+ghost use Rattle.formulas.specs.Pixel.{infraredOf, termOf, fourth, reflectedOf, tArOf, sensitivityOf, alphaTermOf, commonToOf, compensatedOf, finalOf, decided};
 use calibration::Calibration;
 use calibration::Gradient;
 
@@ -236,17 +237,18 @@ pub fn final_value(v_ir: f32, alpha: f32, common: CommonToData) -> f32
     v_ir / (alpha * common.slope + s) + common.t_ar
 }
 
-pub fn per_pixel_temperature(v_ir: f32, alpha: f32, common: CommonToData) -> f32
-    ensures { λ r. ⌜ r ≡ temperatureOf «v_ir» alpha common ⌝ }
+// The temperature of a final value.
+fn temperature(value: f32) -> f32
+    ensures { λ r. ⌜ r ≡ celsius value ⌝ }
 {
-    root::fourth_root(final_value(v_ir, alpha, common)) - 273.15
+    root::fourth_root(value) - 273.15
 }
 
-// What a pixel gives, from its infrared number and its sensitivity as the card has it.
-pub fn pixel_answer(v_ir: f32, alpha: f32, common: CommonToData) -> Pixel
-    ensures { λ r. ⌜ r ≡ answerOf «v_ir» alpha common ⌝ }
+// What a pixel gives, from its infrared number and its final value.
+pub fn pixel_answer(v_ir: f32, value: f32) -> Pixel
+    ensures { λ r. ⌜ r ≡ decided (celsius value) «v_ir» ⌝ }
 {
-    let t = per_pixel_temperature(v_ir, compensated_alpha(alpha, common), common);
+    let t = temperature(value);
     if t != t {
         Pixel::Lost(v_ir)
     } else {

@@ -1,6 +1,6 @@
-// Words and their fields: big-endian words, signed fields over the width, combined words, words in two parts.
+// Words and their fields: big-endian words, signed fields over the width, combined words, words in two parts; and the lesser of two lengths.
 ghost use mathlib.Core.Path.{_≡_};
-ghost use Prim.Native.Nat.{_+_, _*_, _<_, _≤_};
+ghost use Prim.Native.Nat.{min, _+_, _*_, _<_, _≤_};
 ghost use lib.IntN.{_-ℤ_};
 ghost use lib.ListN.{length};
 ghost use lib.Signed.{mag};
@@ -91,4 +91,11 @@ pub fn difference(a: i16, b: i16) -> i32
     ensures { λ r. ⌜ (r ≡ a -ℤ b) × (mag r ≤ 65536) ⌝ }
 {
     a as i32 - b as i32
+}
+
+// The lesser of two lengths.
+pub fn least(a: usize, b: usize) -> usize
+    ensures { λ r. ⌜ r ≡ min a b ⌝ }
+{
+    if a < b { a } else { b }
 }

@@ -40,7 +40,7 @@ temperature-pixels-requires : tie.Need-temperature-pixels-requires
 temperature-pixels-requires c κs =
     let n = c .before .least .ensures in
     let l = opened (c .before .before .before .before) .0 in
-    (omega arith, omega arith)
+    (omega arith, omega arith, omega arith)
 
 returns-2 : tie.Need-returns-2
 returns-2 c =

@@ -2,6 +2,7 @@
 -- numbers. Assumes nothing.
 use borrow.Author.Needs.{needs}
 use mathlib.Core.Path.{_≡_, sym, ap, ap₂, _∙_}
+use mathlib.Core.List.{List}
 use Prim.Native.Nat.{ℕ, min, _≤_, _<_}
 use native.Mathlib.Omega.{arith}
 use lib.ListN.{length}
@@ -12,8 +13,9 @@ use Rattle.floats.specs.Floats.{whole}
 use Rattle.formulas.specs.declared.CommonIrData.{CommonIrData}
 use Rattle.formulas.specs.declared.CommonToData.{CommonToData}
 use Rattle.formulas.specs.Pixel.{termOf, commonToOf}
-use Rattle.calculations.specs.Pixels.{Raw, raw, infraredAt, answersInto, answersLost}
+use Rattle.calculations.specs.Pixels.{Raw, raw, infraredAt, answersInto, answersLost, held}
 use Rattle.calculations.specs.Frames.{PassCall, irCall, passCall, common, reads, shared, onward, passVerdict}
+use Rattle.calculations.proofs.Stages.{pass-lost, pass-into}
 use Rattle.calculations.proofs.Opened.{one-pass-opened, offsets-long}
 use Rattle.calculations.proofs.Calls.{pass-refused, pass-done}
 use Rattle.calculations.proofs.raw_pixels_to_temperatures.Statement.{statement}
@@ -62,31 +64,39 @@ reads-is c = rw (common-is (c .before .before .before .before .before .before), 
 returns : tie.Need-returns
 returns c = pass-refused _ _ _ (sym (gated (c .before .before .before)) ∙ c .before .verdict .given .1)
 
-one-pass-pixels-requires : tie.Need-one-pass-pixels-requires
-one-pass-pixels-requires c κs =
+infrared-pixels-requires : tie.Need-infrared-pixels-requires
+infrared-pixels-requires c κs =
     let n = c .before .pixel-count .ensures in
     let l = opened (c .before .before .before .before .before .before .before .before .before) .0 in
     let a = c .before .before .before .before .before .before .before .before .before .before .before .before .before .before .before .before .before .before .before .before .before .before .args in
     let o = ap length (c .before .before .subpage-offsets .ensures) ∙ offsets-long (a .offsets0 .now) (a .offsets1 .now) (a .subpage) (omega arith) (omega arith) in
-    ((omega arith, omega arith), (omega arith, omega arith, omega arith, omega arith))
+    ((omega arith, omega arith), (omega arith, omega arith, omega arith))
+
+temperature-pixels-requires : tie.Need-temperature-pixels-requires
+temperature-pixels-requires c κs =
+    let n = c .before .before .before .before .before .pixel-count .ensures in
+    let l = opened (c .before .before .before .before .before .before .before .before .before .before .before .before .before) .0 in
+    (omega arith, omega arith, omega arith)
 
 returns-2 : tie.Need-returns-2
 returns-2 c =
-    let s = c .before .before .before .before .before .before .before .before .before .before .before .before .before .before .before .before .before .before .before .before .before .before .before .before .before .before in
+    let s = c .before .before .before .before .before .before .before .before .before .before .before .before .before .before .before .before .before .before .before .before .before .before .before .before .before .before .before .before .before .before in
     let a = s .args in
     let f = call s in
-    let k = shared-is (c .before .before .before .before .before .before .before) in
-    let q = reads-is (c .before .before .before .before .before .before) in
-    let n = c .before .before .before .before .before .pixel-count .ensures in
-    let e = c .before .before .before .one-pass-pixels .ensures in
-    let m = c .before .before .before .before .before .pixel-count .result in
+    let k = shared-is (c .before .before .before .before .before .before .before .before .before .before .before) in
+    let q = reads-is (c .before .before .before .before .before .before .before .before .before .before) in
+    let n = c .before .before .before .before .before .before .before .before .before .pixel-count .ensures in
+    let i = c .before .before .before .before .before .before .before .infrared-pixels .ensures in
+    let e = c .before .before .before .temperature-pixels .ensures in
+    let m = c .before .before .before .before .before .before .before .before .before .pixel-count .result in
     let d = a .destination .now in
-    pass-done f _ _ _ _ (sym (gated (c .before .before .before .before .before .before .before .before .before .before .before .before .before .before .before)) ∙ c .before .before .before .before .before .before .before .before .before .before .before .before .before .enum-told .given .1)
-    (c .to-bits .ensures ∙ ap (λ (x : CommonIrData). toBits binary32 (x .«t_a»)) (common-is (c .before .before .before .before .before .before .before .before .before .before .before .before)))
-    (e .0
+    let x = c .before .before .before .before .before .before .before .before .before .before .before .common-to-data .result in
+    pass-done f _ _ _ _ (sym (gated (c .before .before .before .before .before .before .before .before .before .before .before .before .before .before .before .before .before .before .before)) ∙ c .before .before .before .before .before .before .before .before .before .before .before .before .before .before .before .before .before .enum-told .given .1)
+    (c .to-bits .ensures ∙ ap (λ (x : CommonIrData). toBits binary32 (x .«t_a»)) (common-is (c .before .before .before .before .before .before .before .before .before .before .before .before .before .before .before .before)))
+    (e .0 ∙ ap (λ (w : List ℕ). answersLost (a .mask .now) x (a .alpha .now) (held w) m) (i .1) ∙ pass-lost (a .mask .now) _ m d (omega arith) x (a .alpha .now)
     ∙ ap₂ (λ (x : CommonToData) (r : Raw). answersLost (a .mask .now) x (a .alpha .now) (infraredAt r) m) k q
     ∙ ap (answersLost (a .mask .now) (shared (onward f)) (a .alpha .now) (infraredAt (reads (f .ir)))) n)
-    (e .1
+    (e .1 ∙ ap (λ (w : List ℕ). answersInto (a .mask .now) x (a .alpha .now) (held w) m w) (i .1) ∙ pass-into (a .mask .now) _ m d (omega arith) x (a .alpha .now)
     ∙ ap₂ (λ (x : CommonToData) (r : Raw). answersInto (a .mask .now) x (a .alpha .now) (infraredAt r) m d) k q
     ∙ ap (λ (x : ℕ). answersInto (a .mask .now) (shared (onward f)) (a .alpha .now) (infraredAt (reads (f .ir))) x d) n)
 
@@ -109,7 +119,8 @@ raw-pixels-to-temperatures-spec =
     (λ c κs. search needs)
     (λ c κs. search needs)
     (λ c κs. search needs)
-    one-pass-pixels-requires
+    infrared-pixels-requires
+    temperature-pixels-requires
     (λ c κs. search needs)
     (λ c. search needs)
     returns-2)

@@ -1,96 +1,38 @@
--- `calculations::temperature_pixels` meets its contract: each pixel is left, written, or written as the pattern and counted. Assumes nothing.
+-- `calculations::temperature_pixels` meets its contract: final values first, then answers. Assumes nothing.
 use borrow.Author.Needs.{needs}
-use borrow.Author.Tests.{not-true, not-false}
-use mathlib.Core.Path.{_≡_, sym, ap, _∙_}
-use mathlib.Core.Bool.{true}
-use Prim.Native.Nat.{ℕ, _-_}
+use mathlib.Core.Path.{_≡_, ap, _∙_}
+use mathlib.Core.Bool.{_&&_}
+use mathlib.Core.List.{List}
+use Prim.Native.Nat.{ℕ}
 use native.Mathlib.Omega.{arith}
-use lib.ListN.{getD}
-use lib.Ieee.{Float, nan, binary32, ofBits}
-use Rattle.lists.proofs.Written.{written-past}
-use Rattle.formulas.specs.declared.Pixel.{Pixel}
-use Rattle.formulas.specs.Pixel.{answerOf}
-use Rattle.calculations.specs.Pixels.{touched, answerAt, bitsOf, isLost, held}
-use Rattle.calculations.proofs.Steps as steps
-use Rattle.calculations.proofs.Steps.{Running, kept, missed, told}
+use lib.Ieee.{Float}
+use Rattle.lists.specs.Count.{countBelow}
+use Rattle.lists.specs.Written.{written}
+use Rattle.calculations.specs.Pixels.{touched, decidedAt, bitsOf, isLost, held}
+use Rattle.calculations.proofs.Stages.{staged-lost, staged-into}
 use Rattle.calculations.proofs.temperature_pixels.Statement.{statement}
 use Rattle.calculations.proofs.temperature_pixels.Tie as tie
 
-abbrev Inv-loop : tie.InvT-loop
-Inv-loop common mask alpha destination₀ n lost₀ i₀ destination lost i =
-    let answer : ℕ → Pixel = answerAt common alpha (held destination₀) in
-    Running (touched mask) (λ (k : ℕ). bitsOf (answer k)) (λ (k : ℕ). isLost (answer k)) n destination₀ destination lost i
-
-abbrev μ-loop : tie.MeasureT-loop
-μ-loop common mask alpha destination₀ n lost₀ i₀ destination lost i = n - i
-
-loop-holds : tie.Need-loop-holds Inv-loop μ-loop
-loop-holds c = steps.start _ _ _ _ _
-
-loop-again : tie.Need-loop-again Inv-loop μ-loop
-loop-again c = kept _ _ _ (c .before .before .before .loop .inv) (c .before .before .loop-test .taken) (sym (c .before .masked .ensures) ∙ not-true _ (c .if1 .taken))
-
-asked : (c : tie.Else1 Inv-loop μ-loop) → touched (c .before .before .before .before .before .before .before .args .mask .now) (c .before .before .before .loop .k) ≡ true
-asked c = sym (c .before .masked .ensures) ∙ not-false _ (c .if1 .left)
-
--- the pixel still holds what it held at first
-answered : (c : tie.After-pixel-answer Inv-loop μ-loop) →
-    let a = c .before .before .before .before .before .before .before .before .before .before .before .args in
-    answerAt (a .common) (a .alpha .now) (held (a .destination .now)) (c .before .before .before .before .before .before .before .loop .k) ≡ c .pixel-answer .result
-unfolding answerAt
-answered c =
-    let a = c .before .before .before .before .before .before .before .before .before .before .before .args in
-    let l = c .before .before .before .before .before .before .before .loop in
-    sym (c .pixel-answer .ensures
-    ∙ ap (λ (v : Float). answerOf v (getD (a .alpha .now) (l .k) nan) (a .common))
-    (c .before .before .from-bits .ensures ∙ ap (ofBits binary32) (ap (λ d. getD d (l .k) 0) (l .inv .list) ∙ written-past _ _ (l .k) (a .destination .now) (l .k) 0 (omega arith))))
-
-loop-again-2 : tie.Need-loop-again-2 Inv-loop μ-loop
-loop-again-2 c =
-    let e = answered (c .before .before) ∙ c .enum-told .given .1 in
-    missed _ _ _ (c .before .before .before .before .before .before .before .before .before .loop .inv) (c .before .before .before .before .before .before .before .before .loop-test .taken) (asked (c .before .before .before .before .before .before)) (ap isLost e) (sym (ap bitsOf e))
-
-loop-again-3 : tie.Need-loop-again-3 Inv-loop μ-loop
-loop-again-3 c =
-    let e = answered (c .before .before .before .before) ∙ c .before .before .answer .given .1 in
-    told _ _ _ (c .before .before .before .before .before .before .before .before .before .before .before .loop .inv) (c .before .before .before .before .before .before .before .before .before .before .loop-test .taken) (asked (c .before .before .before .before .before .before .before .before)) (ap isLost e) (c .to-bits .ensures ∙ sym (ap bitsOf e))
-
-returns : tie.Need-returns Inv-loop μ-loop
+returns : tie.Need-returns
 returns c =
-    let r = c .before .loop .inv in
-    let e : c .before .loop .k ≡ c .before .before .before .before .before .args .n = omega arith in
-    (rw e at (r .count), rw e at (r .list))
+    let a = c .before .before .before .before .before .before .before .before .before .before .before .before .args in
+    let v = c .before .before .before .before .before .before .final-values .ensures in
+    let e = c .before .before .answer-pixels .ensures in (
+      e .0
+          ∙ ap (λ (w : List Float). countBelow (λ (k : ℕ). touched (a .mask .now) k && isLost (decidedAt w (held (a .destination .now)) k)) (a .n)) v
+          ∙ staged-lost (a .mask .now) (a .common) (a .alpha .now) (held (a .destination .now)) (a .n) _ (omega arith),
+      e .1
+          ∙ ap (λ (w : List Float). written (touched (a .mask .now)) (λ (k : ℕ). bitsOf (decidedAt w (held (a .destination .now)) k)) (a .n) (a .destination .now)) v
+          ∙ staged-into (a .mask .now) (a .common) (a .alpha .now) (held (a .destination .now)) (a .n) _ (omega arith) (a .destination .now),
+    )
 
 pub temperature-pixels-spec : {M : Type 1} → statement M
 temperature-pixels-spec =
     tie.close
     (tie.spec
-    Inv-loop
-    μ-loop
-    loop-holds
-    (λ c κs. search needs)
-    (λ c. search needs)
-    (λ c. search needs)
-    loop-again
-    (λ c. search needs)
     (λ c. search needs)
     (λ c κs. search needs)
     (λ c. search needs)
-    (λ c. search needs)
     (λ c κs. search needs)
-    (λ c. search needs)
-    (λ c. search needs)
-    (λ c. search needs)
-    (λ c. search needs)
-    (λ c. search needs)
-    (λ c. search needs)
-    (λ c. search needs)
-    loop-again-2
-    (λ c κs. search needs)
-    (λ c. search needs)
-    (λ c. search needs)
-    (λ c. search needs)
-    (λ c. search needs)
-    loop-again-3
     (λ c. search needs)
     returns)
