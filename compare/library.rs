@@ -1,11 +1,11 @@
-//! The library's calls through the C layer of its Rust binding, with the slices' lengths filled in.
+//! The library's calls through the C layer of its Rust binding.
 //! A name in `PLANTED` spoils one answer on purpose, to see that the comparison notices.
 use std::sync::OnceLock;
 
 #[path = "../bindings/rust/src/border.rs"]
 mod border;
-use border::*;
-pub use border::{Answer, Load, Part, Ram, Record, Word};
+use border::{Heat, Reading};
+pub use border::{alpha_row, Answer, Load, Part, Ram, Record, Word};
 
 /// The five tables of a card.
 #[derive(Clone, Debug)]
@@ -52,7 +52,7 @@ fn planted(name: &str) -> bool {
 }
 
 pub fn root(x: f32) -> u32 {
-    let bits = unsafe { loamchalice_root(x) };
+    let bits = border::root(x);
     if planted("root-minus-infinity") && x == f32::NEG_INFINITY {
         return 0x7FC0_0000;
     }
@@ -60,7 +60,7 @@ pub fn root(x: f32) -> u32 {
 }
 
 pub fn encode(data: u16) -> Word {
-    let mut word = unsafe { loamchalice_encode(data) };
+    let mut word = border::encode(data);
     if planted("encode-p4") && data == 0x400 {
         word.word ^= 0x8000;
     }
@@ -68,39 +68,20 @@ pub fn encode(data: u16) -> Word {
 }
 
 pub fn check(word: u16) -> Word {
-    let mut answer = unsafe { loamchalice_check(word) };
+    let mut answer = border::check(word);
     if planted("check-0003-passes") && word == 3 {
         answer = Word { number: 0, place: 0, value: 0, word: 3 };
     }
     answer
 }
 
-pub fn alpha_row(image: &[u8], row: usize) -> Part {
-    unsafe { loamchalice_alpha_row(image.as_ptr(), image.len(), row) }
-}
-
 pub fn subpage_offsets(zero: &[i16], one: &[i16], subpage: u8) -> Part {
-    unsafe { loamchalice_subpage_offsets(zero.as_ptr(), zero.len(), one.as_ptr(), one.len(), subpage) }
+    border::subpage_offsets([zero, one], subpage)
 }
 
 pub fn load(image: &[u8], tables: &mut Tables) -> Load {
-    let [offsets0, offsets1] = &mut tables.offsets;
-    let mut answer = unsafe {
-        loamchalice_load(
-            image.as_ptr(),
-            image.len(),
-            offsets0.as_mut_ptr(),
-            offsets0.len(),
-            offsets1.as_mut_ptr(),
-            offsets1.len(),
-            tables.alpha.as_mut_ptr(),
-            tables.alpha.len(),
-            tables.k_v.as_mut_ptr(),
-            tables.k_v.len(),
-            tables.k_ta.as_mut_ptr(),
-            tables.k_ta.len(),
-        )
-    };
+    let [zero, one] = &mut tables.offsets;
+    let mut answer = border::load(image, [zero, one], &mut tables.alpha, &mut tables.k_v, &mut tables.k_ta);
     if planted("alpha-last-place") && answer.number == 0 {
         tables.alpha[17] = f32::from_bits(tables.alpha[17].to_bits() ^ 1);
     }
@@ -116,32 +97,34 @@ pub fn load(image: &[u8], tables: &mut Tables) -> Load {
     answer
 }
 
+fn reading(f: &Frame) -> Reading<'_> {
+    let [zero, one] = &f.tables.offsets;
+    Reading {
+        record: f.record,
+        emissivity: f.emissivity,
+        resolution_correction: f.resolution_correction,
+        v_dd_0: f.v_dd_0,
+        ram: f.ram,
+        subpage: f.subpage,
+        offsets: [zero, one],
+        k_v: &f.tables.k_v,
+        k_ta: &f.tables.k_ta,
+        pixels: &f.pixels,
+        mask: &f.mask,
+    }
+}
+
+fn heat(f: &Frame) -> Heat<'_> {
+    Heat {
+        basic_range: f.range,
+        given: f.reflected.is_some(),
+        reflected: f.reflected.unwrap_or(HEATS[f.heat]),
+        alpha: &f.tables.alpha,
+    }
+}
+
 pub fn raw_pixels_to_ir_data(f: &Frame, destination: &mut [u32]) -> Answer {
-    let t = &f.tables;
-    let answer = unsafe {
-        loamchalice_raw_pixels_to_ir_data(
-            f.record,
-            f.emissivity,
-            f.resolution_correction,
-            f.v_dd_0,
-            f.ram,
-            f.subpage,
-            t.offsets[0].as_ptr(),
-            t.offsets[0].len(),
-            t.offsets[1].as_ptr(),
-            t.offsets[1].len(),
-            t.k_v.as_ptr(),
-            t.k_v.len(),
-            t.k_ta.as_ptr(),
-            t.k_ta.len(),
-            f.pixels.as_ptr(),
-            f.pixels.len(),
-            f.mask.as_ptr(),
-            f.mask.len(),
-            destination.as_mut_ptr(),
-            destination.len(),
-        )
-    };
+    let answer = border::raw_pixels_to_ir_data(&reading(f), destination);
     if planted("infrared-minus-zero") && answer.number == 0 {
         for bits in destination.iter_mut().filter(|bits| **bits == 0) {
             *bits = 0x8000_0000;
@@ -150,66 +133,13 @@ pub fn raw_pixels_to_ir_data(f: &Frame, destination: &mut [u32]) -> Answer {
     answer
 }
 
-fn reflected(f: &Frame) -> (u8, f32) {
-    match f.reflected {
-        Some(given) => (1, given),
-        None => (0, HEATS[f.heat]),
-    }
-}
-
 pub fn raw_ir_to_temperatures(f: &Frame, t_a: f32, destination: &mut [u32]) -> Answer {
-    let (given, number) = reflected(f);
-    unsafe {
-        loamchalice_raw_ir_to_temperatures(
-            f.record,
-            f.emissivity,
-            t_a,
-            f.range,
-            given,
-            number,
-            f.tables.alpha.as_ptr(),
-            f.tables.alpha.len(),
-            f.mask.as_ptr(),
-            f.mask.len(),
-            destination.as_mut_ptr(),
-            destination.len(),
-        )
-    }
+    border::raw_ir_to_temperatures(f.record, f.emissivity, t_a, &heat(f), &f.mask, destination)
 }
 
 pub fn raw_pixels_to_temperatures(f: &Frame, destination: &mut [u32]) -> Answer {
-    let (given, number) = reflected(f);
-    let t = &f.tables;
     let before = destination.last().copied();
-    let mut answer = unsafe {
-        loamchalice_raw_pixels_to_temperatures(
-            f.record,
-            f.emissivity,
-            f.resolution_correction,
-            f.v_dd_0,
-            f.ram,
-            f.subpage,
-            f.range,
-            given,
-            number,
-            t.offsets[0].as_ptr(),
-            t.offsets[0].len(),
-            t.offsets[1].as_ptr(),
-            t.offsets[1].len(),
-            t.alpha.as_ptr(),
-            t.alpha.len(),
-            t.k_v.as_ptr(),
-            t.k_v.len(),
-            t.k_ta.as_ptr(),
-            t.k_ta.len(),
-            f.pixels.as_ptr(),
-            f.pixels.len(),
-            f.mask.as_ptr(),
-            f.mask.len(),
-            destination.as_mut_ptr(),
-            destination.len(),
-        )
-    };
+    let mut answer = border::raw_pixels_to_temperatures(&reading(f), &heat(f), destination);
     if planted("temperature-last-place") && answer.number == 0 && destination.len() > 100 {
         destination[100] ^= 1;
     }

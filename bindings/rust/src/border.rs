@@ -1,4 +1,4 @@
-//! The archive's calls for C. Slices are a pointer and a count of entries.
+//! The archive's calls for C, where slices are a pointer and a count of entries, and the same with slices.
 
 #[repr(C)]
 #[derive(Clone, Copy, Debug, PartialEq)]
@@ -70,30 +70,172 @@ pub struct Answer {
 
 #[rustfmt::skip]
 extern "C" {
-    pub fn loamchalice_root(x: f32) -> u32;
-    pub fn loamchalice_encode(data: u16) -> Word;
-    pub fn loamchalice_check(word: u16) -> Word;
-    pub fn loamchalice_alpha_row(image: *const u8, length: usize, row: usize) -> Part;
-    pub fn loamchalice_subpage_offsets(zero: *const i16, zero_length: usize, one: *const i16, one_length: usize, subpage: u8) -> Part;
-    pub fn loamchalice_load(
+    fn loamchalice_root(x: f32) -> u32;
+    fn loamchalice_encode(data: u16) -> Word;
+    fn loamchalice_check(word: u16) -> Word;
+    fn loamchalice_alpha_row(image: *const u8, length: usize, row: usize) -> Part;
+    fn loamchalice_subpage_offsets(zero: *const i16, zero_length: usize, one: *const i16, one_length: usize, subpage: u8) -> Part;
+    fn loamchalice_load(
         image: *const u8, length: usize, offsets0: *mut i16, offsets0_length: usize, offsets1: *mut i16, offsets1_length: usize,
         alpha: *mut f32, alpha_length: usize, k_v: *mut f32, k_v_length: usize, k_ta: *mut f32, k_ta_length: usize,
     ) -> Load;
-    pub fn loamchalice_raw_pixels_to_ir_data(
+    fn loamchalice_raw_pixels_to_ir_data(
         calibration: Record, emissivity: f32, resolution_correction: f32, v_dd_0: f32, ram: Ram, subpage: u8,
         offsets0: *const i16, offsets0_length: usize, offsets1: *const i16, offsets1_length: usize,
         k_v: *const f32, k_v_length: usize, k_ta: *const f32, k_ta_length: usize,
         pixels: *const u8, pixels_length: usize, mask: *const u8, mask_length: usize, destination: *mut u32, destination_length: usize,
     ) -> Answer;
-    pub fn loamchalice_raw_ir_to_temperatures(
+    fn loamchalice_raw_ir_to_temperatures(
         calibration: Record, emissivity: f32, t_a: f32, basic_range: usize, reflected_given: u8, reflected: f32,
         alpha: *const f32, alpha_length: usize, mask: *const u8, mask_length: usize, destination: *mut u32, destination_length: usize,
     ) -> Answer;
-    pub fn loamchalice_raw_pixels_to_temperatures(
+    fn loamchalice_raw_pixels_to_temperatures(
         calibration: Record, emissivity: f32, resolution_correction: f32, v_dd_0: f32, ram: Ram, subpage: u8,
         basic_range: usize, reflected_given: u8, reflected: f32,
         offsets0: *const i16, offsets0_length: usize, offsets1: *const i16, offsets1_length: usize, alpha: *const f32, alpha_length: usize,
         k_v: *const f32, k_v_length: usize, k_ta: *const f32, k_ta_length: usize,
         pixels: *const u8, pixels_length: usize, mask: *const u8, mask_length: usize, destination: *mut u32, destination_length: usize,
     ) -> Answer;
+}
+
+/// What both calls from pixels take.
+pub struct Reading<'a> {
+    pub record: Record,
+    pub emissivity: f32,
+    pub resolution_correction: f32,
+    pub v_dd_0: f32,
+    pub ram: Ram,
+    pub subpage: u8,
+    pub offsets: [&'a [i16]; 2],
+    pub k_v: &'a [f32],
+    pub k_ta: &'a [f32],
+    pub pixels: &'a [u8],
+    pub mask: &'a [u8],
+}
+
+/// What both calls to temperature take: the reflected temperature, or the self-heating where it is not given.
+pub struct Heat<'a> {
+    pub basic_range: usize,
+    pub given: bool,
+    pub reflected: f32,
+    pub alpha: &'a [f32],
+}
+
+pub fn root(x: f32) -> u32 {
+    unsafe { loamchalice_root(x) }
+}
+
+pub fn encode(data: u16) -> Word {
+    unsafe { loamchalice_encode(data) }
+}
+
+pub fn check(word: u16) -> Word {
+    unsafe { loamchalice_check(word) }
+}
+
+pub fn alpha_row(image: &[u8], row: usize) -> Part {
+    unsafe { loamchalice_alpha_row(image.as_ptr(), image.len(), row) }
+}
+
+pub fn subpage_offsets([zero, one]: [&[i16]; 2], subpage: u8) -> Part {
+    unsafe { loamchalice_subpage_offsets(zero.as_ptr(), zero.len(), one.as_ptr(), one.len(), subpage) }
+}
+
+pub fn load(image: &[u8], [zero, one]: [&mut [i16]; 2], alpha: &mut [f32], k_v: &mut [f32], k_ta: &mut [f32]) -> Load {
+    unsafe {
+        loamchalice_load(
+            image.as_ptr(),
+            image.len(),
+            zero.as_mut_ptr(),
+            zero.len(),
+            one.as_mut_ptr(),
+            one.len(),
+            alpha.as_mut_ptr(),
+            alpha.len(),
+            k_v.as_mut_ptr(),
+            k_v.len(),
+            k_ta.as_mut_ptr(),
+            k_ta.len(),
+        )
+    }
+}
+
+pub fn raw_pixels_to_ir_data(r: &Reading, destination: &mut [u32]) -> Answer {
+    let [zero, one] = r.offsets;
+    unsafe {
+        loamchalice_raw_pixels_to_ir_data(
+            r.record,
+            r.emissivity,
+            r.resolution_correction,
+            r.v_dd_0,
+            r.ram,
+            r.subpage,
+            zero.as_ptr(),
+            zero.len(),
+            one.as_ptr(),
+            one.len(),
+            r.k_v.as_ptr(),
+            r.k_v.len(),
+            r.k_ta.as_ptr(),
+            r.k_ta.len(),
+            r.pixels.as_ptr(),
+            r.pixels.len(),
+            r.mask.as_ptr(),
+            r.mask.len(),
+            destination.as_mut_ptr(),
+            destination.len(),
+        )
+    }
+}
+
+pub fn raw_ir_to_temperatures(record: Record, emissivity: f32, t_a: f32, heat: &Heat, mask: &[u8], destination: &mut [u32]) -> Answer {
+    unsafe {
+        loamchalice_raw_ir_to_temperatures(
+            record,
+            emissivity,
+            t_a,
+            heat.basic_range,
+            heat.given.into(),
+            heat.reflected,
+            heat.alpha.as_ptr(),
+            heat.alpha.len(),
+            mask.as_ptr(),
+            mask.len(),
+            destination.as_mut_ptr(),
+            destination.len(),
+        )
+    }
+}
+
+pub fn raw_pixels_to_temperatures(r: &Reading, heat: &Heat, destination: &mut [u32]) -> Answer {
+    let [zero, one] = r.offsets;
+    unsafe {
+        loamchalice_raw_pixels_to_temperatures(
+            r.record,
+            r.emissivity,
+            r.resolution_correction,
+            r.v_dd_0,
+            r.ram,
+            r.subpage,
+            heat.basic_range,
+            heat.given.into(),
+            heat.reflected,
+            zero.as_ptr(),
+            zero.len(),
+            one.as_ptr(),
+            one.len(),
+            heat.alpha.as_ptr(),
+            heat.alpha.len(),
+            r.k_v.as_ptr(),
+            r.k_v.len(),
+            r.k_ta.as_ptr(),
+            r.k_ta.len(),
+            r.pixels.as_ptr(),
+            r.pixels.len(),
+            r.mask.as_ptr(),
+            r.mask.len(),
+            destination.as_mut_ptr(),
+            destination.len(),
+        )
+    }
 }

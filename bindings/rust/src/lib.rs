@@ -87,7 +87,7 @@ pub fn resolution_correction(calibrated: u8, current: u8) -> f32 {
 /// assert!(loamchalice::add_checksum(2048).is_err());
 /// ```
 pub fn add_checksum(data: u16) -> Result<u16, Refusal> {
-    let answer = unsafe { border::loamchalice_encode(data) };
+    let answer = border::encode(data);
     Refusal::of(answer.number, answer.place, answer.value).map_or(Ok(answer.word), Err)
 }
 
@@ -99,7 +99,7 @@ pub fn add_checksum(data: u16) -> Result<u16, Refusal> {
 /// assert_eq!(validate_checksum(3), Err(Refusal::DamagedWord { word: 0, bits: 3 }));
 /// ```
 pub fn validate_checksum(word: u16) -> Result<u16, Refusal> {
-    let answer = unsafe { border::loamchalice_check(word) };
+    let answer = border::check(word);
     Refusal::of(answer.number, answer.place, answer.value).map_or(Ok(answer.word), Err)
 }
 
@@ -111,7 +111,7 @@ pub fn validate_checksum(word: u16) -> Result<u16, Refusal> {
 /// assert!(loamchalice::alpha_row(card, 6).is_empty());
 /// ```
 pub fn alpha_row(image: &[u8], row: usize) -> &[u8] {
-    let part = unsafe { border::loamchalice_alpha_row(image.as_ptr(), image.len(), row) };
+    let part = border::alpha_row(image, row);
     &image[part.start..part.start + part.length]
 }
 
@@ -123,7 +123,7 @@ pub fn alpha_row(image: &[u8], row: usize) -> &[u8] {
 /// assert!(subpage_offsets(&[0; 200], &[7; 191], Subpage::One).is_empty());
 /// ```
 pub fn subpage_offsets<'a>(zero: &'a [i16], one: &'a [i16], subpage: Subpage) -> &'a [i16] {
-    let part = unsafe { border::loamchalice_subpage_offsets(zero.as_ptr(), zero.len(), one.as_ptr(), one.len(), subpage as u8) };
+    let part = border::subpage_offsets([zero, one], subpage as u8);
     let table = match subpage {
         Subpage::Zero => zero,
         Subpage::One => one,
@@ -137,7 +137,7 @@ pub fn subpage_offsets<'a>(zero: &'a [i16], one: &'a [i16], subpage: Subpage) ->
 /// assert_eq!(loamchalice::fourth_root(81.0), 3.0);
 /// ```
 pub fn fourth_root(x: f32) -> f32 {
-    f32::from_bits(unsafe { border::loamchalice_root(x) })
+    f32::from_bits(border::root(x))
 }
 
 /// A card's record and tables.
@@ -160,23 +160,8 @@ impl Calibration {
     /// ```
     pub fn from_data(image: &[u8]) -> Result<Self, Refusal> {
         let (mut offsets, mut alpha, mut k_v, mut k_ta) = ([[0; 192]; 2], [0.0; 192], [0.0; 192], [0.0; 192]);
-        let [offsets0, offsets1] = &mut offsets;
-        let loaded = unsafe {
-            border::loamchalice_load(
-                image.as_ptr(),
-                image.len(),
-                offsets0.as_mut_ptr(),
-                192,
-                offsets1.as_mut_ptr(),
-                192,
-                alpha.as_mut_ptr(),
-                192,
-                k_v.as_mut_ptr(),
-                192,
-                k_ta.as_mut_ptr(),
-                192,
-            )
-        };
+        let [zero, one] = &mut offsets;
+        let loaded = border::load(image, [zero, one], &mut alpha, &mut k_v, &mut k_ta);
         match Refusal::of(loaded.number, loaded.place, loaded.value) {
             Some(refusal) => Err(refusal),
             None => Ok(Calibration { record: loaded.calibration, offsets, alpha, k_v, k_ta }),
@@ -230,51 +215,15 @@ impl Calibration {
         valid_pixels: &[bool],
         destination: &mut [f32],
     ) -> Result<Frame, Refusal> {
-        answered(unsafe {
-            border::loamchalice_raw_pixels_to_ir_data(
-                self.record,
-                settings.emissivity,
-                settings.resolution_correction,
-                settings.v_dd_0,
-                words(ram),
-                subpage as u8,
-                self.offsets[0].as_ptr(),
-                192,
-                self.offsets[1].as_ptr(),
-                192,
-                self.k_v.as_ptr(),
-                192,
-                self.k_ta.as_ptr(),
-                192,
-                pixels.as_ptr(),
-                pixels.len(),
-                valid_pixels.as_ptr().cast(),
-                valid_pixels.len(),
-                destination.as_mut_ptr().cast(),
-                destination.len(),
-            )
-        })
+        let reading = self.reading(settings, ram, subpage, pixels, valid_pixels);
+        answered(border::raw_pixels_to_ir_data(&reading, as_bits(destination)))
     }
 
     /// Infrared numbers to temperatures, in place, for the ambient temperature that the infrared call gave. Refusals 6, 8.
     pub fn raw_ir_to_temperatures(&self, settings: &Settings, t_a: f32, valid_pixels: &[bool], destination: &mut [f32]) -> Result<Frame, Refusal> {
-        let (given, number) = reflected(settings);
-        answered(unsafe {
-            border::loamchalice_raw_ir_to_temperatures(
-                self.record,
-                settings.emissivity,
-                t_a,
-                settings.basic_range,
-                given,
-                number,
-                self.alpha.as_ptr(),
-                192,
-                valid_pixels.as_ptr().cast(),
-                valid_pixels.len(),
-                destination.as_mut_ptr().cast(),
-                destination.len(),
-            )
-        })
+        let heat = self.heat(settings);
+        let mask = as_bytes(valid_pixels);
+        answered(border::raw_ir_to_temperatures(self.record, settings.emissivity, t_a, &heat, mask, as_bits(destination)))
     }
 
     /// Pixels to temperatures in one pass. Refusals 6, 7, 8.
@@ -287,49 +236,46 @@ impl Calibration {
         valid_pixels: &[bool],
         destination: &mut [f32],
     ) -> Result<Frame, Refusal> {
-        let (given, number) = reflected(settings);
-        answered(unsafe {
-            border::loamchalice_raw_pixels_to_temperatures(
-                self.record,
-                settings.emissivity,
-                settings.resolution_correction,
-                settings.v_dd_0,
-                words(ram),
-                subpage as u8,
-                settings.basic_range,
-                given,
-                number,
-                self.offsets[0].as_ptr(),
-                192,
-                self.offsets[1].as_ptr(),
-                192,
-                self.alpha.as_ptr(),
-                192,
-                self.k_v.as_ptr(),
-                192,
-                self.k_ta.as_ptr(),
-                192,
-                pixels.as_ptr(),
-                pixels.len(),
-                valid_pixels.as_ptr().cast(),
-                valid_pixels.len(),
-                destination.as_mut_ptr().cast(),
-                destination.len(),
-            )
-        })
+        let reading = self.reading(settings, ram, subpage, pixels, valid_pixels);
+        answered(border::raw_pixels_to_temperatures(&reading, &self.heat(settings), as_bits(destination)))
+    }
+
+    fn reading<'a>(&'a self, settings: &Settings, ram: RamData, subpage: Subpage, pixels: &'a [u8], valid_pixels: &'a [bool]) -> border::Reading<'a> {
+        let RamData { t_a_v_be, t_a_ptat, v_dd_pixel, gain, compensation_pixel } = ram;
+        let [zero, one] = &self.offsets;
+        border::Reading {
+            record: self.record,
+            emissivity: settings.emissivity,
+            resolution_correction: settings.resolution_correction,
+            v_dd_0: settings.v_dd_0,
+            ram: border::Ram { t_a_v_be, t_a_ptat, v_dd_pixel, gain, compensation_pixel },
+            subpage: subpage as u8,
+            offsets: [zero, one],
+            k_v: &self.k_v,
+            k_ta: &self.k_ta,
+            pixels,
+            mask: as_bytes(valid_pixels),
+        }
+    }
+
+    fn heat(&self, settings: &Settings) -> border::Heat<'_> {
+        border::Heat {
+            basic_range: settings.basic_range,
+            given: settings.reflected.is_some(),
+            reflected: settings.reflected.unwrap_or(settings.self_heating),
+            alpha: &self.alpha,
+        }
     }
 }
 
-fn words(ram: RamData) -> border::Ram {
-    let RamData { t_a_v_be, t_a_ptat, v_dd_pixel, gain, compensation_pixel } = ram;
-    border::Ram { t_a_v_be, t_a_ptat, v_dd_pixel, gain, compensation_pixel }
+// A bool is a byte, 0 or 1.
+fn as_bytes(mask: &[bool]) -> &[u8] {
+    unsafe { std::slice::from_raw_parts(mask.as_ptr().cast(), mask.len()) }
 }
 
-fn reflected(settings: &Settings) -> (u8, f32) {
-    match settings.reflected {
-        Some(given) => (1, given),
-        None => (0, settings.self_heating),
-    }
+// An f32 is lent as its bits: any u32 is one.
+fn as_bits(numbers: &mut [f32]) -> &mut [u32] {
+    unsafe { std::slice::from_raw_parts_mut(numbers.as_mut_ptr().cast(), numbers.len()) }
 }
 
 fn answered(answer: border::Answer) -> Result<Frame, Refusal> {
