@@ -3,9 +3,9 @@
 use std::hint::black_box;
 use std::time::Instant;
 
-extern "C" {
-    fn loamchalice_root(x: f32) -> u32;
-}
+#[allow(dead_code)]
+#[path = "../bindings/rust/src/border.rs"]
+mod border;
 
 const NUMBERS: usize = 4096;
 const ROUNDS: usize = 2000;
@@ -31,7 +31,7 @@ fn round(xs: &[f32], root: impl Fn(f32) -> u32) -> f64 {
 fn compare(name: &str, xs: &[f32]) {
     let mut least = [f64::MAX; 3];
     for _ in 0..ROUNDS {
-        least[0] = least[0].min(round(xs, |x| unsafe { loamchalice_root(x) }));
+        least[0] = least[0].min(round(xs, border::root));
         least[1] = least[1].min(round(xs, |x| x.powf(0.25).to_bits()));
         least[2] = least[2].min(round(xs, |x| x.sqrt().sqrt().to_bits()));
     }

@@ -6,6 +6,10 @@
 #include <stdio.h>
 #include <string.h>
 
+/* What the archive hands over, on a processor of 64 bits. */
+_Static_assert(sizeof(loamchalice_word) == 32 && sizeof(loamchalice_part) == 16 && sizeof(loamchalice_record) == 100, "layout");
+_Static_assert(sizeof(loamchalice_loaded) == 128 && sizeof(loamchalice_ram) == 10 && sizeof(loamchalice_answer) == 40, "layout");
+
 static float number(uint32_t bits) {
     float x;
     memcpy(&x, &bits, sizeof x);

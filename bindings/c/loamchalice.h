@@ -1,7 +1,7 @@
 /* Loamchalice for C: a chip card of the MLX90641 to a calibration, and its frames to infrared numbers and temperatures.
  *
- * A slice is a pointer and a count of entries. Nothing is kept between calls, and there is no heap. The only misuse that leads anywhere
- * undefined is a wrong pointer or count, or two slices that overlap where one of them is written.
+ * A slice is a pointer and a count of entries; with a count of 0 any pointer will do but NULL. Nothing is kept between calls, and there is
+ * no heap. The only misuse that leads anywhere undefined is a wrong pointer or count, or two slices that overlap where one is written.
  *
  * Each answer has `number`, `place` and `value`: all 0, or the refusal that stopped the call before it wrote anything.
  *   1  the image is below 1,664 bytes                        place: its length
@@ -101,7 +101,7 @@ loamchalice_answer loamchalice_raw_ir_to_temperatures(
     const float *alpha, size_t alpha_length, const uint8_t *mask, size_t mask_length,
     uint32_t *destination, size_t destination_length);
 
-/* Pixels to temperatures in one pass. Refusals 2, 6, 7, 8. */
+/* Pixels to temperatures in one pass; which pixels are written is as with infrared numbers. Refusals 2, 6, 7, 8. */
 loamchalice_answer loamchalice_raw_pixels_to_temperatures(
     loamchalice_record calibration, float emissivity, float resolution_correction, float v_dd_0, loamchalice_ram ram, uint8_t subpage,
     size_t basic_range, uint8_t reflected_given, float reflected,

@@ -68,6 +68,13 @@ pub struct Answer {
     pub t_a: u32,
 }
 
+// What the archive hands over, on a processor of 64 bits.
+const _: () = {
+    use std::mem::size_of;
+    assert!(size_of::<Word>() == 32 && size_of::<Part>() == 16 && size_of::<Record>() == 100);
+    assert!(size_of::<Load>() == 128 && size_of::<Ram>() == 10 && size_of::<Answer>() == 40);
+};
+
 #[rustfmt::skip]
 extern "C" {
     fn loamchalice_root(x: f32) -> u32;

@@ -205,7 +205,8 @@ impl Calibration {
         &self.alpha
     }
 
-    /// Pixels, two bytes each and the upper first, to infrared numbers. A pixel whose mask is false or missing stays. Refusals 7, 8.
+    /// Pixels, two bytes each and the upper first, to infrared numbers. A pixel whose mask is false or missing stays as it was, and so does one
+    /// that too few pixel bytes don't reach; that is no refusal. Refusals 7, 8.
     pub fn raw_pixels_to_ir_data(
         &self,
         settings: &Settings,
@@ -219,14 +220,15 @@ impl Calibration {
         answered(border::raw_pixels_to_ir_data(&reading, as_bits(destination)))
     }
 
-    /// Infrared numbers to temperatures, in place, for the ambient temperature that the infrared call gave. Refusals 6, 8.
+    /// Infrared numbers to temperatures, in place, for the ambient temperature that the infrared call gave. A pixel whose mask is false or
+    /// missing stays as it was. Refusals 6, 8.
     pub fn raw_ir_to_temperatures(&self, settings: &Settings, t_a: f32, valid_pixels: &[bool], destination: &mut [f32]) -> Result<Frame, Refusal> {
         let heat = self.heat(settings);
         let mask = as_bytes(valid_pixels);
         answered(border::raw_ir_to_temperatures(self.record, settings.emissivity, t_a, &heat, mask, as_bits(destination)))
     }
 
-    /// Pixels to temperatures in one pass. Refusals 6, 7, 8.
+    /// Pixels to temperatures in one pass; which pixels are written is as with infrared numbers. Refusals 6, 7, 8.
     pub fn raw_pixels_to_temperatures(
         &self,
         settings: &Settings,

@@ -1,5 +1,5 @@
--- Demand 3 at the frame: where 2 ^ 32 ≤ X < 2 ^ 36 for a touched pixel, its bits hold a temperature within 1/32768 degree of the exact one,
--- and of two such pixels, of any frames, the one of the larger X is not the colder. Assumes nothing.
+-- Demand 3 at the frame: where 2 ^ 32 ≤ X < 2 ^ 36 for a touched pixel, its bits hold a temperature within 1/32768 degree of X's exact fourth
+-- root less 8950579/32768, and of two such pixels, of any frames, the one of the larger X is not the colder. Assumes nothing.
 use Prim.Native.Nat.{ℕ, _≤_, _<_}
 use mathlib.Core.Path.{_≡_, refl, sym, ap, _∙_, subst}
 use mathlib.Core.Bool.{Bool, true, false}

@@ -1,5 +1,6 @@
 // What stops a frame, lowest number first. Each test is one function, and the three gates share them.
 ghost use mathlib.Core.Path.{_≡_};
+ghost use lib.Dec.{ltb};
 ghost use Rattle.gates.specs.Gate.{badEmissivity, zeroDivisor, supplyOutside, readingVerdict, infraredVerdict, temperatureVerdict, onePassVerdict};
 use calibration::Calibration;
 use formulas::RamData;
@@ -43,6 +44,13 @@ fn supply_stops(calibration: Calibration, ram: RamData) -> bool
     !util::fits_i16(util::difference(ram.v_dd_pixel, calibration.v_dd_25))
 }
 
+// Whether a basic range is none of the eight.
+fn range_stops(basic_range: usize) -> bool
+    ensures { λ r. ⌜ r ≡ ltb 7 «basic_range» ⌝ }
+{
+    7 < basic_range
+}
+
 // Refusals 7 and 8, of both calls that take pixels.
 fn reading_gate(calibration: Calibration, emissivity: f32, ram: RamData) -> Verdict
     ensures { λ r. ⌜ r ≡ readingVerdict calibration emissivity ram ⌝ }
@@ -81,7 +89,7 @@ pub fn temperature_gate(emissivity: f32, basic_range: usize, alpha: usize) -> Ve
     if alpha < 192 {
         return Verdict::Refused(Refusal::ShortTable);
     }
-    if 7 < basic_range {
+    if range_stops(basic_range) {
         return Verdict::Refused(Refusal::BasicRange { range: basic_range });
     }
     if emissivity_stops(emissivity) {
@@ -103,7 +111,7 @@ pub fn one_pass_gate(
     if shortest < 192 {
         return Verdict::Refused(Refusal::ShortTable);
     }
-    if 7 < basic_range {
+    if range_stops(basic_range) {
         return Verdict::Refused(Refusal::BasicRange { range: basic_range });
     }
     reading_gate(calibration, emissivity, ram)

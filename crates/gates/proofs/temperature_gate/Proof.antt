@@ -12,17 +12,17 @@ returns c = simp (lt-ltb _ _ (c .if1 .taken))
 
 returns-2 : tie.Need-returns-2
 unfolding temperatureVerdict
-returns-2 c = simp (le-ltb _ _ (c .before .if1 .left), lt-ltb _ _ (c .if2 .taken))
+returns-2 c = simp (le-ltb _ _ (c .before .before .if1 .left), sym (c .before .range-stops .ensures) ∙ c .if2 .taken)
 
 returns-3 : tie.Need-returns-3
 unfolding temperatureVerdict
 returns-3 c =
-    simp (le-ltb _ _ (c .before .before .before .if1 .left), le-ltb _ _ (c .before .before .if2 .left), sym (c .before .emissivity-stops .ensures) ∙ c .if3 .taken)
+    simp (le-ltb _ _ (c .before .before .before .before .if1 .left), sym (c .before .before .before .range-stops .ensures) ∙ c .before .before .if2 .left, sym (c .before .emissivity-stops .ensures) ∙ c .if3 .taken)
 
 returns-4 : tie.Need-returns-4
 unfolding temperatureVerdict
 returns-4 c =
-    simp (le-ltb _ _ (c .before .before .before .if1 .left), le-ltb _ _ (c .before .before .if2 .left), sym (c .before .emissivity-stops .ensures) ∙ c .if3 .left)
+    simp (le-ltb _ _ (c .before .before .before .before .if1 .left), sym (c .before .before .before .range-stops .ensures) ∙ c .before .before .if2 .left, sym (c .before .emissivity-stops .ensures) ∙ c .if3 .left)
 
 pub temperature-gate-spec : {M : Type 1} → statement M
-temperature-gate-spec = tie.close (tie.spec returns returns-2 (λ c κs. search needs) returns-3 returns-4)
+temperature-gate-spec = tie.close (tie.spec returns (λ c κs. search needs) returns-2 (λ c κs. search needs) returns-3 returns-4)
