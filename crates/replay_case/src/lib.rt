@@ -1,10 +1,8 @@
 // What crate `replay` is made of: the cases of its stored stream. A case is a head of 16 bytes and what its kind adds; the top of
 // crates/replay/src/main.rt says what stands where. Each case makes its calls and says what differs from the stored answer, if anything.
-mod cards;
 mod words;
 
 use calibration::Calibration;
-use eeprom::Loaded;
 use libc::STDIN_FILENO;
 
 // What a case counts as.
@@ -44,59 +42,6 @@ fn counted(counts: u8, differs: u8, record: Calibration) -> Case {
     }
 }
 
-// What differs in a loaded card from the record and the tables of an answer.
-fn good_differs(
-    head: &[u8],
-    answer: &[u8],
-    loaded: Loaded,
-    offsets0: &[i16],
-    offsets1: &[i16],
-    alpha: &[f32],
-    k_v: &[f32],
-    k_ta: &[f32],
-) -> u8 {
-    let verdict = loaded.verdict;
-    let record = loaded.calibration;
-    if !cards::verdict_same(head, verdict) {
-        return stored::LOAD;
-    }
-    if !cards::record_same(answer, record) {
-        return stored::RECORD;
-    }
-    if !cards::tables_same(answer, offsets0, offsets1, alpha, k_v, k_ta) {
-        return stored::TABLES;
-    }
-    if !cards::kept(192, offsets0, offsets1, alpha, k_v, k_ta) {
-        return stored::TABLES;
-    }
-    stored::AGREES
-}
-
-// What differs in a refused one. Its record is all zero.
-fn refused_differs(
-    head: &[u8],
-    loaded: Loaded,
-    offsets0: &[i16],
-    offsets1: &[i16],
-    alpha: &[f32],
-    k_v: &[f32],
-    k_ta: &[f32],
-) -> u8 {
-    let verdict = loaded.verdict;
-    let record = loaded.calibration;
-    let zeros = [0u8; 100];
-    if !cards::verdict_same(head, verdict) {
-        return stored::LOAD;
-    }
-    if !cards::record_same(&zeros, record) {
-        return stored::RECORD;
-    }
-    if !cards::kept(0, offsets0, offsets1, alpha, k_v, k_ta) {
-        return stored::TABLES;
-    }
-    stored::AGREES
-}
-
 fn good_card(
     head: &[u8; 16],
     offsets0: &mut [i16; 200],
@@ -109,7 +54,7 @@ fn good_card(
     let mut answer = [0u8; 3172];
     let n = io::read_full(STDIN_FILENO, &mut block);
     let m = io::read_full(STDIN_FILENO, &mut answer);
-    let loaded = cards::load(head, &block, offsets0, offsets1, alpha, k_v, k_ta);
+    let loaded = replay_card::load(head, &block, offsets0, offsets1, alpha, k_v, k_ta);
     let record = loaded.calibration;
     if n < 1696 {
         return last(stored::STREAM, record);
@@ -117,7 +62,16 @@ fn good_card(
     if m < 3172 {
         return last(stored::STREAM, record);
     }
-    let differs = good_differs(head, &answer, loaded, offsets0, offsets1, alpha, k_v, k_ta);
+    let differs = replay_card::good_differs(
+        head,
+        &answer,
+        loaded,
+        offsets0,
+        offsets1,
+        alpha,
+        k_v,
+        k_ta,
+    );
     counted(CARD, differs, record)
 }
 
@@ -131,12 +85,12 @@ fn refused_card(
 ) -> Case {
     let mut block = [0u8; 1696];
     let n = io::read_full(STDIN_FILENO, &mut block);
-    let loaded = cards::load(head, &block, offsets0, offsets1, alpha, k_v, k_ta);
+    let loaded = replay_card::load(head, &block, offsets0, offsets1, alpha, k_v, k_ta);
     let record = loaded.calibration;
     if n < 1696 {
         return last(stored::STREAM, record);
     }
-    let differs = refused_differs(head, loaded, offsets0, offsets1, alpha, k_v, k_ta);
+    let differs = replay_card::refused_differs(head, loaded, offsets0, offsets1, alpha, k_v, k_ta);
     counted(CARD, differs, record)
 }
 
@@ -146,7 +100,7 @@ fn record_of_frames(record: Calibration) -> Case {
     if n < 100 {
         return last(stored::STREAM, record);
     }
-    counted(NOTHING, stored::AGREES, cards::record_of(&block))
+    counted(NOTHING, stored::AGREES, replay_card::record_of(&block))
 }
 
 fn tables_of_frames(

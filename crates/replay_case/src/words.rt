@@ -3,23 +3,12 @@ use hamming::Checked;
 use hamming::Encoded;
 use refusal::Refusal;
 
-// A verdict of a head: number at 8, place at 12, value at 6.
-pub fn verdict_is(head: &[u8], number: u64, place: u64, value: u64) -> bool {
-    if stored::word_at(head, 8) as u64 != number {
-        return false;
-    }
-    if stored::word_at(head, 12) as u64 != place {
-        return false;
-    }
-    stored::half_at(head, 6) as u64 == value
-}
-
 fn refused_so(head: &[u8], refusal: Refusal) -> bool {
-    verdict_is(head, refusal.number(), refusal.place(), refusal.value())
+    stored::verdict_is(head, refusal.number(), refusal.place(), refusal.value())
 }
 
 fn answered_so(head: &[u8], answer: u16) -> bool {
-    if !verdict_is(head, 0, 0, 0) {
+    if !stored::verdict_is(head, 0, 0, 0) {
         return false;
     }
     stored::half_at(head, 4) == answer

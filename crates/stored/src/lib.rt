@@ -54,6 +54,17 @@ pub fn size_at(block: &[u8], at: usize) -> usize {
     half_at(block, at) as usize
 }
 
+// A verdict of a head: number at 8, place at 12, value at 6.
+pub fn verdict_is(head: &[u8], number: u64, place: u64, value: u64) -> bool {
+    if word_at(head, 8) as u64 != number {
+        return false;
+    }
+    if word_at(head, 12) as u64 != place {
+        return false;
+    }
+    half_at(head, 6) as u64 == value
+}
+
 // ---- Parts of at most so many entries
 
 pub fn at_most(n: usize, most: usize) -> usize

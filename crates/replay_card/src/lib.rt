@@ -1,5 +1,4 @@
 // Cards: the image's length at 2 of the head; the lengths of five tables at 0, 2, 4, 6 and 8 of the block and the image at 16.
-use crate::words;
 use calibration::Calibration;
 use calibration::Gradient;
 use eeprom::Loaded;
@@ -48,12 +47,12 @@ fn load_parts(
     )
 }
 
-pub fn verdict_same(head: &[u8], verdict: Verdict) -> bool {
-    words::verdict_is(head, verdict.number(), verdict.place(), verdict.value())
+fn verdict_same(head: &[u8], verdict: Verdict) -> bool {
+    stored::verdict_is(head, verdict.number(), verdict.place(), verdict.value())
 }
 
 // Whether every entry from a place on is as before the load.
-pub fn kept(
+fn kept(
     from: usize,
     offsets0: &[i16],
     offsets1: &[i16],
@@ -69,7 +68,7 @@ pub fn kept(
 }
 
 // The five tables of an answer stand behind its record.
-pub fn tables_same(
+fn tables_same(
     answer: &[u8],
     offsets0: &[i16],
     offsets1: &[i16],
@@ -124,7 +123,7 @@ fn rest_same(answer: &[u8], record: Calibration) -> bool {
         && stored::byte_at(answer, 98) == record.resolution
 }
 
-pub fn record_same(answer: &[u8], record: Calibration) -> bool {
+fn record_same(answer: &[u8], record: Calibration) -> bool {
     let gradient = record.temperature_gradient_coefficient;
     numbers_same(answer, record) && rest_same(answer, record) && gradient_same(answer, gradient)
 }
@@ -173,4 +172,59 @@ pub fn record_of(block: &[u8]) -> Calibration {
         k_ta_cp: stored::real_at(block, 36),
         temperature_gradient_coefficient: gradient,
     }
+}
+
+// ---- A card beside its answer
+
+// What differs in a loaded card from the record and the tables of an answer.
+pub fn good_differs(
+    head: &[u8],
+    answer: &[u8],
+    loaded: Loaded,
+    offsets0: &[i16],
+    offsets1: &[i16],
+    alpha: &[f32],
+    k_v: &[f32],
+    k_ta: &[f32],
+) -> u8 {
+    let verdict = loaded.verdict;
+    let record = loaded.calibration;
+    if !verdict_same(head, verdict) {
+        return stored::LOAD;
+    }
+    if !record_same(answer, record) {
+        return stored::RECORD;
+    }
+    if !tables_same(answer, offsets0, offsets1, alpha, k_v, k_ta) {
+        return stored::TABLES;
+    }
+    if !kept(192, offsets0, offsets1, alpha, k_v, k_ta) {
+        return stored::TABLES;
+    }
+    stored::AGREES
+}
+
+// What differs in a refused one. Its record is all zero.
+pub fn refused_differs(
+    head: &[u8],
+    loaded: Loaded,
+    offsets0: &[i16],
+    offsets1: &[i16],
+    alpha: &[f32],
+    k_v: &[f32],
+    k_ta: &[f32],
+) -> u8 {
+    let verdict = loaded.verdict;
+    let record = loaded.calibration;
+    let zeros = [0u8; 100];
+    if !verdict_same(head, verdict) {
+        return stored::LOAD;
+    }
+    if !record_same(&zeros, record) {
+        return stored::RECORD;
+    }
+    if !kept(0, offsets0, offsets1, alpha, k_v, k_ta) {
+        return stored::TABLES;
+    }
+    stored::AGREES
 }

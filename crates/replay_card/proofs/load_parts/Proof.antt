@@ -2,8 +2,8 @@ use lib.Seq.{length-take-le}
 use mathlib.Core.Path.{sym}
 use native.Mathlib.Omega.{arith}
 use borrow.Author.Needs.{needs}
-use Rattle.replay_case.proofs.cards.load_parts.Statement.{statement}
-use Rattle.replay_case.proofs.cards.load_parts.Tie as tie
+use Rattle.replay_card.proofs.load_parts.Statement.{statement}
+use Rattle.replay_card.proofs.load_parts.Tie as tie
 
 slice-aggregate-load : tie.Need-slice-aggregate-load
 slice-aggregate-load c = sym (length-take-le _ _ (omega arith))
