@@ -1,3 +1,4 @@
+-- `replay::replay` is safe and ends: each turn leaves one case less to go. Assumes nothing.
 use Prim.Native.Nat.{_≤_}
 use borrow.Author.Needs.{needs}
 use Rattle.replay.proofs.replay.Statement.{statement}

@@ -1,12 +1,10 @@
-use lib.Seq.{length-take-le}
+-- `replay_frame::infrared` is safe: the part that it lends ends within the destination. Assumes nothing.
 use mathlib.Core.Path.{sym}
 use native.Mathlib.Omega.{arith}
+use lib.Seq.{length-take-le}
 use borrow.Author.Needs.{needs}
 use Rattle.replay_frame.proofs.infrared.Statement.{statement}
 use Rattle.replay_frame.proofs.infrared.Tie as tie
-
-slice-aggregate-raw-pixels-to-ir-data : tie.Need-slice-aggregate-raw-pixels-to-ir-data
-slice-aggregate-raw-pixels-to-ir-data c = sym (length-take-le _ _ (omega arith))
 
 pub infrared-spec : {M : Type 1} → statement M
 infrared-spec =
@@ -29,7 +27,7 @@ infrared-spec =
     (λ c κs. search needs)
     (λ c κs. search needs)
     (λ c. search needs)
-    slice-aggregate-raw-pixels-to-ir-data
+    (λ c. sym (length-take-le _ _ (omega arith)))
     (λ c κs. search needs)
     (λ c. search needs)
     (λ c. search needs))

@@ -1,12 +1,10 @@
-use lib.Seq.{length-take-le}
+-- `stored::bytes` is safe: the part starts and ends within the block. Assumes nothing.
 use mathlib.Core.Path.{sym}
 use native.Mathlib.Omega.{arith}
+use lib.Seq.{length-take-le}
 use borrow.Author.Needs.{needs}
 use Rattle.stored.proofs.bytes.Statement.{statement}
 use Rattle.stored.proofs.bytes.Tie as tie
-
-slice-aggregate-result : tie.Need-slice-aggregate-result
-slice-aggregate-result c = sym (length-take-le _ _ (omega arith))
 
 pub bytes-spec : {M : Type 1} → statement M
 bytes-spec =
@@ -17,5 +15,5 @@ bytes-spec =
     (λ c. search needs)
     (λ c. search needs)
     (λ c κs. search needs)
-    slice-aggregate-result
+    (λ c. sym (length-take-le _ _ (omega arith)))
     (λ c. search needs))

