@@ -2,7 +2,11 @@
 //!   sample FOLDER
 //! Chip words, records, tables and infrared numbers are those of the crate as published, temperatures those of the rooted one. What
 //! stops a call is worked out by document.rs, and must fit what the crate does there. The library is not linked: of library.rs only the types
-//! are used here. The form of the stream is at the top of crates/replay/src/main.rt; here each case is put together as it says.
+//! are used here.
+//! The stream is cases one after another, every number big-endian, a not-a-number of an answer as 0x7FC00000, a pixel that is left as its
+//! bits before. A case is a head of 16 bytes (kind, what the crate did, what is given, answer, value, number, place), and then: for a card its
+//! lengths, its image and, if it loads, record and tables; for a frame its numbers and lengths, three answers, pixels, mask, and the
+//! destinations before and after. The top of crates/replay/src/main.rt says what stands where.
 #[allow(dead_code)]
 mod cards;
 #[allow(dead_code)]
@@ -35,7 +39,8 @@ use mlx9064x::mlx90641::hamming::{add_checksum, validate_checksum};
 use mlx9064x::mlx90641::Mlx90641Calibration;
 use mlx9064x::{CalibrationData, Subpage};
 use numbers::Numbers;
-use tally::{of_crate, Tally};
+use std::collections::BTreeMap;
+use tally::of_crate;
 
 const SEED: u64 = 90641;
 const WORDS_OF_EACH: usize = 120;
@@ -71,10 +76,14 @@ struct Stream {
     words: u64,
     cards: u64,
     frames: u64,
-    tally: Tally,
+    counts: BTreeMap<String, u64>,
 }
 
 impl Stream {
+    fn count(&mut self, class: String) {
+        *self.counts.entry(class).or_default() += 1;
+    }
+
     fn half(&mut self, x: u16) {
         self.bytes.extend(x.to_be_bytes());
     }
@@ -109,7 +118,7 @@ fn encode(s: &mut Stream, data: u16) {
     };
     s.head(1, did, data, word, verdict);
     s.words += 1;
-    s.tally.count(&format!("encode, verdict {}", verdict.0));
+    s.count(format!("encode, verdict {}", verdict.0));
 }
 
 fn check(s: &mut Stream, word: u16) {
@@ -120,7 +129,7 @@ fn check(s: &mut Stream, word: u16) {
     };
     s.head(2, did, word, data, verdict);
     s.words += 1;
-    s.tally.count(&format!("check, verdict {}", verdict.0));
+    s.count(format!("check, verdict {}", verdict.0));
 }
 
 fn flipped(n: &mut Numbers, word: u16, flips: usize) -> u16 {
@@ -244,8 +253,8 @@ fn card(s: &mut Stream, code: &Code, class: &str, image: &[u8], lengths: [usize;
         s.bytes.extend(&s.tables);
     }
     s.cards += 1;
-    s.tally.count(&format!("cards, {class}"));
-    s.tally.count(&format!("cards, verdict {}, {says}", verdict.0));
+    s.count(format!("cards, {class}"));
+    s.count(format!("cards, verdict {}, {says}", verdict.0));
 }
 
 fn with(data: &[(usize, u16)]) -> Data {
@@ -377,7 +386,7 @@ struct Told {
 
 fn told(s: &mut Stream, call: &str, f: &Frame, verdict: Verdict, before: &[u32], count: usize, said: Option<(f32, Vec<f32>)>) -> Told {
     let did = if said.is_some() { ANSWERED } else { PANIC };
-    s.tally.count(&format!("{call}, verdict {}, {}", verdict.0, if did == PANIC { "crate panics" } else { "crate goes on" }));
+    s.count(format!("{call}, verdict {}, {}", verdict.0, if did == PANIC { "crate panics" } else { "crate goes on" }));
     let mut told = Told { did, verdict, t_a: 0, lost: 0, after: before.to_vec() };
     if verdict.0 != 0 {
         assert!(!matches!(verdict.0, 6 | 7) || did == PANIC, "{call}: refusal {verdict:?}, the crate goes on");
@@ -389,12 +398,23 @@ fn told(s: &mut Stream, call: &str, f: &Frame, verdict: Verdict, before: &[u32],
         if i < count && f.mask.get(i).is_some_and(|byte| *byte != 0) {
             told.after[i] = bits(*pixel);
             told.lost += u32::from(pixel.is_nan());
+            s.count(format!("{call}, pixels {}", kind_of(*pixel)));
         } else {
+            s.count(format!("{call}, pixels left as they were"));
             assert_eq!(pixel.to_bits(), before[i], "{call}: the crate leaves pixel {i}");
         }
     }
-    s.tally.add(&format!("{call}, pixels lost"), told.lost.into());
     told
+}
+
+fn kind_of(pixel: f32) -> &'static str {
+    match pixel {
+        x if x.is_nan() => "not a number",
+        x if x.is_infinite() => "infinite",
+        x if x == 0.0 && x.is_sign_negative() => "-0",
+        x if x.is_subnormal() => "subnormal",
+        _ => "finite",
+    }
 }
 
 fn floats(bits: &[u32]) -> Vec<f32> {
@@ -490,7 +510,7 @@ fn frame(s: &mut Stream, class: &str, mut f: Frame, mut before: Vec<u32>, given:
         put_destination(s, list);
     }
     s.frames += 1;
-    s.tally.count(&format!("frames, {class}"));
+    s.count(format!("frames, {class}"));
 }
 
 // A frame of a room, on a card.
@@ -580,6 +600,18 @@ fn lengths_of_frames(s: &mut Stream, n: &mut Numbers) {
     }
 }
 
+// Entries past 192 are not read.
+fn long_tables(s: &mut Stream, n: &mut Numbers) {
+    for (subpage, length) in [(0, 200), (1, 200), (1, 193)] {
+        corner(s, n, "long tables", |f| {
+            f.subpage = subpage;
+            let t = &mut f.tables;
+            t.offsets.iter_mut().for_each(|table| table.resize(length, 77));
+            [&mut t.alpha, &mut t.k_v, &mut t.k_ta].into_iter().for_each(|table| table.resize(length, 77.0));
+        });
+    }
+}
+
 // Each divisor that may not be zero, and beside it the same call without the zero.
 fn divisors(s: &mut Stream, n: &mut Numbers) {
     let usual = (-3104, 42.25, 0.5, 6391, 19442);
@@ -609,6 +641,11 @@ fn readings(s: &mut Stream, n: &mut Numbers) {
     for (gain, gradient) in [(6391, 1), (-6391, 1), (6391, 0), (-6391, 0), (1, 1), (-32768, 0)] {
         corner(s, n, "readings", |f| {
             (f.pixels, f.ram.gain, f.record.has_gradient, f.emissivity) = (pixels.clone(), gain, gradient, 1.0);
+        });
+    }
+    for gain in [6391, -6391] {
+        corner(s, n, "readings, offsets 0", |f| {
+            (f.pixels, f.ram.gain, f.record.has_gradient, f.tables.offsets[0]) = (pixels.clone(), gain, 0, vec![0; 192]);
         });
     }
 }
@@ -668,7 +705,7 @@ fn main() {
     }));
     let code = Code::new();
     let mut s =
-        Stream { bytes: Vec::new(), record: Vec::new(), tables: Vec::new(), words: 0, cards: 0, frames: 0, tally: Tally::new() };
+        Stream { bytes: Vec::new(), record: Vec::new(), tables: Vec::new(), words: 0, cards: 0, frames: 0, counts: BTreeMap::new() };
     words(&mut s);
     lengths_of_cards(&mut s, &code);
     wiped(&mut s, &code);
@@ -683,6 +720,7 @@ fn main() {
     on_cards(&mut s, &code, &mut n);
     caller_corners(&mut s, &mut n);
     lengths_of_frames(&mut s, &mut n);
+    long_tables(&mut s, &mut n);
     divisors(&mut s, &mut n);
     readings(&mut s, &mut n);
     known_roots(&mut s, &mut n);
@@ -695,6 +733,8 @@ fn main() {
     );
     std::fs::write(format!("{folder}/stdin"), &s.bytes).expect("stdin written");
     std::fs::write(format!("{folder}/stdout"), &lines).expect("stdout written");
-    s.tally.report();
-    print!("{lines}{} bytes\n", s.bytes.len());
+    for (class, count) in &s.counts {
+        println!("{count:>8}  {class}");
+    }
+    println!("{} words, {} cards, {} frames, {} bytes", s.words, s.cards, s.frames, s.bytes.len());
 }
