@@ -24,7 +24,7 @@ pub fn image_of(data: &Data) -> Vec<u8> {
     data.iter().flat_map(|d| document::encode(d % 2048).to_be_bytes()).collect()
 }
 
-fn bits11(z: i32) -> u16 {
+pub fn bits11(z: i32) -> u16 {
     z.rem_euclid(2048) as u16
 }
 
@@ -144,7 +144,7 @@ fn flip(n: &mut Numbers, image: &mut [u8], word: usize, flips: usize) {
     }
 }
 
-fn made(n: &mut Numbers) -> (&'static str, Vec<u8>) {
+pub fn made(n: &mut Numbers) -> (&'static str, Vec<u8>) {
     let data = match n.below(8) {
         0..=2 => realistic(n),
         3..=5 => boundary(n),
@@ -299,7 +299,7 @@ fn all_zero(r: &Record) -> bool {
 
 // What the crate did, and whether it fits the verdict. It reads on from word 16 and stops at what it meets first: a panic in its own
 // arithmetic comes before damage only where the offsets that panic stand before the damaged word.
-fn fits(code: &Code, image: &[u8], verdict: Verdict, answer: &Option<Result<Mlx90641Calibration, LibraryError>>) -> (bool, &'static str) {
+pub fn fits(code: &Code, image: &[u8], verdict: Verdict, answer: &Option<Result<Mlx90641Calibration, LibraryError>>) -> (bool, &'static str) {
     match (verdict.0, answer) {
         (0, Some(Ok(_))) => (true, "crate good"),
         (2, _) => (true, "crate not asked: it has no such tables"),

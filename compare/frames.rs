@@ -1,7 +1,7 @@
 //! Frames: infrared against the crate as published, temperatures against the rooted one, the published `powf` counted beside them.
 use crate::cards::{blank_tables, image_of, realistic, sound};
 use crate::document::{self, Verdict};
-use crate::library::{self, Answer, Frame, Ram};
+use crate::library::{self, Answer, Frame, Ram, Record, Tables};
 use crate::numbers::Numbers;
 use crate::tally::{of_crate, progress, Tally};
 use crate::{published, rooted};
@@ -19,7 +19,7 @@ struct Powf {
     kinds_differ: u64,
 }
 
-fn room(n: &mut Numbers) -> Ram {
+pub fn room(n: &mut Numbers) -> Ram {
     Ram {
         t_a_v_be: 19442 + n.between(-300, 300) as i16,
         t_a_ptat: 1711 + n.between(-60, 60) as i16,
@@ -33,15 +33,23 @@ fn any_ram(n: &mut Numbers) -> Ram {
     Ram { t_a_v_be: n.word(), t_a_ptat: n.word(), v_dd_pixel: n.word(), gain: n.word(), compensation_pixel: n.word() }
 }
 
-fn realistic_frame(n: &mut Numbers) -> Frame {
+/// An image into tables: the library's load or the crate's.
+pub type Loader = fn(&[u8], &mut Tables) -> Record;
+
+fn by_library(image: &[u8], tables: &mut Tables) -> Record {
+    let loaded = library::load(image, tables);
+    assert_eq!(loaded.number, 0, "a realistic card loads");
+    loaded.calibration
+}
+
+fn realistic_frame(n: &mut Numbers, load: Loader) -> Frame {
     let data = if n.one_in(4) { sound() } else { realistic(n) };
     let mut tables = blank_tables(n);
-    let loaded = library::load(&image_of(&data), &mut tables);
-    assert_eq!(loaded.number, 0, "a realistic card loads");
+    let record = load(&image_of(&data), &mut tables);
     let raw = n.between(-900, 1500);
     let pixels = (0..192).flat_map(|_| ((raw + n.between(-200, 200)) as i16).to_be_bytes()).collect();
     Frame {
-        record: loaded.calibration,
+        record,
         tables,
         emissivity: if n.one_in(3) { 1.0 } else { n.real(0.7, 1.0) },
         resolution_correction: n.pick(&[1.0, 1.0, 0.5, 2.0, 0.25]),
@@ -158,8 +166,8 @@ fn wild_tables(n: &mut Numbers, f: &mut Frame) {
     }
 }
 
-fn made(n: &mut Numbers) -> (&'static str, Frame) {
-    let mut f = realistic_frame(n);
+pub fn made(n: &mut Numbers, load: Loader) -> (&'static str, Frame) {
+    let mut f = realistic_frame(n, load);
     let kind = n.below(6);
     if kind == 0 {
         return ("realistic", f);
@@ -182,7 +190,7 @@ fn made(n: &mut Numbers) -> (&'static str, Frame) {
     (if kind == 4 { "wild record and tables" } else { "any RAM words, wild record and tables" }, f)
 }
 
-fn destination(n: &mut Numbers, kind: &str) -> Vec<u32> {
+pub fn destination(n: &mut Numbers, kind: &str) -> Vec<u32> {
     let length = if kind == "realistic" { 192 } else { n.pick(&[192, 192, 192, 192, 0, 1, 191, 193, 300]) };
     match n.below(3) {
         0 => (0..length).map(|_| n.wild().to_bits()).collect(),
@@ -286,7 +294,7 @@ fn compare_powf(powf: &mut Powf, label: &str, published: &[f32], after: &[u32], 
 }
 
 fn one(tally: &mut Tally, powf: &mut [Powf; 2], n: &mut Numbers, label: &str) {
-    let (kind, f) = made(n);
+    let (kind, f) = made(n, by_library);
     tally.count(&format!("frames, {kind}"));
     let before = destination(n, kind);
     let count = 192.min(before.len()).min(f.pixels.len() / 2);

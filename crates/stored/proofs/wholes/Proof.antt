@@ -1,0 +1,10 @@
+-- `stored::wholes` is safe: the part ends within the table. Assumes nothing.
+use mathlib.Core.Path.{sym}
+use native.Mathlib.Omega.{arith}
+use lib.Seq.{length-take-le}
+use borrow.Author.Needs.{needs}
+use Rattle.stored.proofs.wholes.Statement.{statement}
+use Rattle.stored.proofs.wholes.Tie as tie
+
+pub wholes-spec : {M : Type 1} → statement M
+wholes-spec = tie.close (tie.spec (λ c κs. search needs) (λ c. sym (length-take-le _ _ (omega arith))) (λ c. search needs))

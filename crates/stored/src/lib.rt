@@ -1,0 +1,185 @@
+// Numbers in a block of bytes, upper byte first; past the block's end every byte is 0. And tables beside a block.
+ghost use Prim.Native.Nat.{_≤_};
+
+// What a case may differ in.
+pub const AGREES: u8 = 0;
+
+pub const ENCODE: u8 = 1;
+
+pub const CHECK: u8 = 2;
+
+pub const LOAD: u8 = 3;
+
+pub const RECORD: u8 = 4;
+
+pub const TABLES: u8 = 5;
+
+pub const INFRARED: u8 = 6;
+
+pub const TEMPERATURES: u8 = 7;
+
+pub const ONE_PASS: u8 = 8;
+
+pub const STREAM: u8 = 9;
+
+// ---- Numbers
+
+pub fn byte_at(block: &[u8], at: usize) -> u8 {
+    if at < block.len() { block[at] } else { 0 }
+}
+
+pub fn half_at(block: &[u8], at: usize) -> u16 {
+    let low = std::num::wrapping_add_usize(at, 1);
+    util::big_endian(byte_at(block, at), byte_at(block, low))
+}
+
+fn joined(upper: u16, lower: u16) -> u32 {
+    upper as u32 * 65536 + lower as u32
+}
+
+pub fn word_at(block: &[u8], at: usize) -> u32 {
+    let low = std::num::wrapping_add_usize(at, 2);
+    joined(half_at(block, at), half_at(block, low))
+}
+
+pub fn whole_at(block: &[u8], at: usize) -> i16 {
+    util::i16_from_bits(util::wide(half_at(block, at)), 16)
+}
+
+pub fn real_at(block: &[u8], at: usize) -> f32 {
+    floats::from_bits(word_at(block, at))
+}
+
+pub fn size_at(block: &[u8], at: usize) -> usize {
+    half_at(block, at) as usize
+}
+
+// A verdict of a head: number at 8, place at 12, value at 6.
+pub fn verdict_is(head: &[u8], number: u64, place: u64, value: u64) -> bool {
+    if word_at(head, 8) as u64 != number {
+        return false;
+    }
+    if word_at(head, 12) as u64 != place {
+        return false;
+    }
+    half_at(head, 6) as u64 == value
+}
+
+// ---- Parts of at most so many entries
+
+pub fn at_most(n: usize, most: usize) -> usize
+    ensures { λ r. ⌜ r ≤ most ⌝ }
+{
+    if n < most { n } else { most }
+}
+
+pub fn wholes(table: &[i16], n: usize) -> &[i16] {
+    let end = at_most(n, table.len());
+    &table[..end]
+}
+
+pub fn reals(table: &[f32], n: usize) -> &[f32] {
+    let end = at_most(n, table.len());
+    &table[..end]
+}
+
+// At most n bytes from a place on.
+pub fn bytes(block: &[u8], from: usize, n: usize) -> &[u8] {
+    let start = at_most(from, block.len());
+    let rest = &block[start..];
+    let end = at_most(n, rest.len());
+    &rest[..end]
+}
+
+// ---- Whether a table has the entries that are stored from a place on
+
+pub fn wholes_same(block: &[u8], from: usize, table: &[i16]) -> bool {
+    let mut at = from;
+    let mut i = 0;
+    while i < table.len() {
+        if table[i] != whole_at(block, at) {
+            return false;
+        }
+        at = std::num::wrapping_add_usize(at, 2);
+        i += 1;
+    }
+    true
+}
+
+pub fn reals_same(block: &[u8], from: usize, table: &[f32]) -> bool {
+    let mut at = from;
+    let mut i = 0;
+    while i < table.len() {
+        if floats::to_bits(table[i]) != word_at(block, at) {
+            return false;
+        }
+        at = std::num::wrapping_add_usize(at, 4);
+        i += 1;
+    }
+    true
+}
+
+pub fn words_same(block: &[u8], from: usize, list: &[u32]) -> bool {
+    let mut at = from;
+    let mut i = 0;
+    while i < list.len() {
+        if list[i] != word_at(block, at) {
+            return false;
+        }
+        at = std::num::wrapping_add_usize(at, 4);
+        i += 1;
+    }
+    true
+}
+
+// ---- Whether every entry from a place on is 77
+
+pub fn wholes_kept(table: &[i16], from: usize) -> bool {
+    let mut i = from;
+    while i < table.len() {
+        if table[i] != 77 {
+            return false;
+        }
+        i += 1;
+    }
+    true
+}
+
+pub fn reals_kept(table: &[f32], from: usize) -> bool {
+    let mut i = from;
+    while i < table.len() {
+        if table[i] != 77.0 {
+            return false;
+        }
+        i += 1;
+    }
+    true
+}
+
+// ---- Tables from a block: their first 192 entries, or a destination's 200
+
+pub fn wholes_into(block: &[u8], from: usize, table: &mut [i16; 200]) {
+    let mut at = from;
+    for i in 0..192usize {
+        table[i] = whole_at(block, at);
+        at = std::num::wrapping_add_usize(at, 2);
+    }
+}
+
+pub fn reals_into(block: &[u8], from: usize, table: &mut [f32; 200]) {
+    let mut at = from;
+    for i in 0..192usize {
+        table[i] = real_at(block, at);
+        at = std::num::wrapping_add_usize(at, 4);
+    }
+}
+
+pub fn words_of(block: &[u8], from: usize) -> [u32; 200] {
+    let mut list = [0u32; 200];
+    let mut at = from;
+    for i in 0..200usize {
+        list[i] = word_at(block, at);
+        at = std::num::wrapping_add_usize(at, 4);
+    }
+    list
+}
