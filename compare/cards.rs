@@ -208,6 +208,49 @@ pub fn made(n: &mut Numbers) -> (&'static str, Vec<u8>) {
     }
 }
 
+/// The crate's record.
+pub fn record_of(c: &Mlx90641Calibration) -> Record {
+    let gradient = c.temperature_gradient_coefficient();
+    Record {
+        k_v_ptat: c.k_v_ptat(),
+        k_t_ptat: c.k_t_ptat(),
+        v_ptat_25: c.v_ptat_25(),
+        alpha_ptat: c.alpha_ptat(),
+        gain: c.gain(),
+        k_s_ta: c.k_s_ta(),
+        emissivity: c.emissivity().expect("an emissivity"),
+        alpha_cp: c.alpha_cp(Subpage::Zero),
+        k_v_cp: c.k_v_cp(Subpage::Zero),
+        k_ta_cp: c.k_ta_cp(Subpage::Zero),
+        gradient: gradient.unwrap_or(0.0),
+        k_s_to: c.k_s_to().try_into().expect("eight ranges"),
+        corner_temperatures: c.corner_temperatures().try_into().expect("eight corners"),
+        k_v_dd: c.k_v_dd(),
+        v_dd_25: c.v_dd_25(),
+        offset_reference_cp: c.offset_reference_cp(Subpage::Zero),
+        resolution: c.resolution(),
+        has_gradient: u8::from(gradient.is_some()),
+    }
+}
+
+/// The crate's tables.
+pub fn tables_of(c: &Mlx90641Calibration) -> Tables {
+    let tables = Tables {
+        offsets: [Subpage::Zero, Subpage::One].map(|subpage| c.offset_reference_pixels(subpage).copied().collect()),
+        alpha: c.alpha_pixels(Subpage::Zero).copied().collect(),
+        k_v: c.k_v_pixels(Subpage::Zero).copied().collect(),
+        k_ta: c.k_ta_pixels(Subpage::Zero).copied().collect(),
+    };
+    assert!(tables.shortest() >= 192, "the crate has 192 entries in each table");
+    tables
+}
+
+/// The crate's load of a card, with the tables that it gives.
+pub fn by_crate(image: &[u8]) -> (Record, Tables) {
+    let card = Mlx90641Calibration::from_data(image).expect("a realistic card loads");
+    (record_of(&card), tables_of(&card))
+}
+
 pub fn blank_tables(n: &mut Numbers) -> Tables {
     let length = |n: &mut Numbers| 192 + if n.one_in(4) { n.below(5) } else { 0 };
     let real = |n: &mut Numbers| (0..length(n)).map(|k| f32::from_bits(0x7FA0_0000 + k as u32)).collect::<Vec<f32>>();

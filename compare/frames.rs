@@ -1,7 +1,7 @@
 //! Frames: infrared against the crate as published, temperatures against the rooted one, the published `powf` counted beside them.
-use crate::cards::{blank_tables, image_of, realistic, sound};
+use crate::cards::{by_crate, image_of, realistic, sound};
 use crate::document::{self, Verdict};
-use crate::library::{self, Answer, Frame, Ram, Record, Tables};
+use crate::library::{self, Answer, Frame, Ram, HEATS};
 use crate::numbers::Numbers;
 use crate::tally::{of_crate, progress, Tally};
 use crate::{published, rooted};
@@ -33,22 +33,22 @@ fn any_ram(n: &mut Numbers) -> Ram {
     Ram { t_a_v_be: n.word(), t_a_ptat: n.word(), v_dd_pixel: n.word(), gain: n.word(), compensation_pixel: n.word() }
 }
 
-/// An image into tables: the library's load or the crate's.
-pub type Loader = fn(&[u8], &mut Tables) -> Record;
-
-fn by_library(image: &[u8], tables: &mut Tables) -> Record {
-    let loaded = library::load(image, tables);
-    assert_eq!(loaded.number, 0, "a realistic card loads");
-    loaded.calibration
-}
-
-fn realistic_frame(n: &mut Numbers, load: Loader) -> Frame {
+// On a card that the crate has loaded, some tables longer than they need be.
+fn realistic_frame(n: &mut Numbers) -> Frame {
     let data = if n.one_in(4) { sound() } else { realistic(n) };
-    let mut tables = blank_tables(n);
-    let record = load(&image_of(&data), &mut tables);
+    let image = image_of(&data);
+    let (record, mut tables) = by_crate(&image);
+    let mut longer = || 192 + if n.one_in(4) { n.below(5) } else { 0 };
+    for table in [&mut tables.alpha, &mut tables.k_v, &mut tables.k_ta] {
+        table.resize(longer(), f32::NAN);
+    }
+    for table in &mut tables.offsets {
+        table.resize(longer(), 1234);
+    }
     let raw = n.between(-900, 1500);
     let pixels = (0..192).flat_map(|_| ((raw + n.between(-200, 200)) as i16).to_be_bytes()).collect();
     Frame {
+        image,
         record,
         tables,
         emissivity: if n.one_in(3) { 1.0 } else { n.real(0.7, 1.0) },
@@ -73,8 +73,8 @@ fn vary(n: &mut Numbers, f: &mut Frame) {
         _ => f.emissivity,
     };
     f.subpage = n.pick(&[0, 0, 1, 1, 2, 255]);
-    f.range = if n.one_in(40) { 8 } else { n.below(8) };
-    f.heat = n.below(4);
+    f.range = if n.one_in(40) { n.pick(&[8, 8, 9, 255, 0xFFFF_FFFF]) } else { n.below(8) };
+    f.heat = n.below(HEATS.len());
     if n.one_in(3) {
         f.record.has_gradient = 0;
     } else {
@@ -166,8 +166,8 @@ fn wild_tables(n: &mut Numbers, f: &mut Frame) {
     }
 }
 
-pub fn made(n: &mut Numbers, load: Loader) -> (&'static str, Frame) {
-    let mut f = realistic_frame(n, load);
+pub fn made(n: &mut Numbers) -> (&'static str, Frame) {
+    let mut f = realistic_frame(n);
     let kind = n.below(6);
     if kind == 0 {
         return ("realistic", f);
@@ -294,7 +294,10 @@ fn compare_powf(powf: &mut Powf, label: &str, published: &[f32], after: &[u32], 
 }
 
 fn one(tally: &mut Tally, powf: &mut [Powf; 2], n: &mut Numbers, label: &str) {
-    let (kind, f) = made(n, by_library);
+    let (kind, mut f) = made(n);
+    if f.range > 8 && n.one_in(2) {
+        f.range <<= 32;
+    }
     tally.count(&format!("frames, {kind}"));
     let before = destination(n, kind);
     let count = 192.min(before.len()).min(f.pixels.len() / 2);
@@ -308,6 +311,14 @@ fn one(tally: &mut Tally, powf: &mut [Powf; 2], n: &mut Numbers, label: &str) {
     });
     let j = Judged { call: "infrared", label, mask: &f.mask, before: &before, count, t_a: None };
     let infrared = judge(tally, &j, document::infrared(&f), answer, &after, &said).then(|| (after.clone(), f32::from_bits(answer.t_a)));
+    if kind == "realistic" {
+        let said = of_crate(|| {
+            let mut destination = floats(&before);
+            let t_a = published::own_infrared(&f, &mut destination);
+            (Some(t_a), destination)
+        });
+        judge(tally, &Judged { call: "infrared by the crate's own types", ..j }, document::infrared(&f), answer, &after, &said);
+    }
 
     // From the infrared numbers of this frame, or from whatever stands in the destination.
     let (from, t_a) = match infrared {
@@ -333,6 +344,14 @@ fn one(tally: &mut Tally, powf: &mut [Powf; 2], n: &mut Numbers, label: &str) {
     });
     let j = Judged { call: "one pass", label, mask: &f.mask, before: &before, count, t_a: None };
     if judge(tally, &j, document::one_pass(&f), answer, &after, &said) {
+        if kind == "realistic" {
+            let said = of_crate(|| {
+                let mut destination = floats(&before);
+                let t_a = rooted::own_one_pass(&f, &mut destination);
+                (Some(t_a), destination)
+            });
+            judge(tally, &Judged { call: "one pass by the crate's own types", ..j }, document::one_pass(&f), answer, &after, &said);
+        }
         let mut destination = floats(&before);
         published::raw_pixels_to_temperatures(&f, &mut destination);
         let class = &mut powf[usize::from(kind != "realistic")];

@@ -26,9 +26,10 @@ impl Tables {
     }
 }
 
-/// What a frame is computed from. `heat` is an index into HEATS.
+/// What a frame is computed from: the card's image, its record and tables, perhaps changed, and the rest. `heat` is an index into HEATS.
 #[derive(Clone, Debug)]
 pub struct Frame {
+    pub image: Vec<u8>,
     pub record: Record,
     pub tables: Tables,
     pub emissivity: f32,
@@ -43,7 +44,7 @@ pub struct Frame {
     pub mask: Vec<u8>,
 }
 
-pub const HEATS: [f32; 4] = [5.0, 0.0, -7.25, f32::INFINITY];
+pub const HEATS: [f32; 5] = [5.0, 0.0, -7.25, f32::INFINITY, f32::NAN];
 
 pub static PLANTED: OnceLock<String> = OnceLock::new();
 
@@ -91,8 +92,14 @@ pub fn load(image: &[u8], tables: &mut Tables) -> Load {
     if planted("damaged-place") && answer.number == 3 {
         answer.place += 1;
     }
-    if planted("gradient-sign-of-zero") && answer.calibration.gradient == 0.0 {
+    if planted("gradient-sign-of-zero") && answer.number == 0 && answer.calibration.gradient == 0.0 {
         answer.calibration.gradient = -0.0;
+    }
+    if planted("offset-one-up") && answer.number == 0 {
+        tables.offsets[1][191] += 1;
+    }
+    if planted("corner") && answer.number == 0 {
+        answer.calibration.corner_temperatures[7] += 1;
     }
     answer
 }
@@ -124,7 +131,13 @@ fn heat(f: &Frame) -> Heat<'_> {
 }
 
 pub fn raw_pixels_to_ir_data(f: &Frame, destination: &mut [u32]) -> Answer {
-    let answer = border::raw_pixels_to_ir_data(&reading(f), destination);
+    let mut answer = border::raw_pixels_to_ir_data(&reading(f), destination);
+    if planted("t-a-last-place") && answer.number == 0 {
+        answer.t_a ^= 1;
+    }
+    if planted("mask-ignored") && answer.number == 0 && !destination.is_empty() && f.mask.first() == Some(&0) {
+        destination[0] ^= 1;
+    }
     if planted("infrared-minus-zero") && answer.number == 0 {
         for bits in destination.iter_mut().filter(|bits| **bits == 0) {
             *bits = 0x8000_0000;
@@ -134,7 +147,15 @@ pub fn raw_pixels_to_ir_data(f: &Frame, destination: &mut [u32]) -> Answer {
 }
 
 pub fn raw_ir_to_temperatures(f: &Frame, t_a: f32, destination: &mut [u32]) -> Answer {
-    border::raw_ir_to_temperatures(f.record, f.emissivity, t_a, &heat(f), &f.mask, destination)
+    let first = destination.first().copied();
+    let mut answer = border::raw_ir_to_temperatures(f.record, f.emissivity, t_a, &heat(f), &f.mask, destination);
+    if planted("range-place") && answer.number == 6 {
+        answer.place %= 1 << 32;
+    }
+    if planted("first-temperature-left") && !destination.is_empty() {
+        destination[0] = first.unwrap_or(0);
+    }
+    answer
 }
 
 pub fn raw_pixels_to_temperatures(f: &Frame, destination: &mut [u32]) -> Answer {

@@ -31,7 +31,7 @@ mod rooted {
     include!("subject.rs");
 }
 
-use cards::{bits11, image_of, sound, Data};
+use cards::{bits11, by_crate, image_of, record_of, sound, tables_of, Data};
 use document::{Code, Verdict};
 use library::{Frame, Record, Tables, HEATS};
 use mlx9064x::error::LibraryError;
@@ -178,48 +178,6 @@ fn table_bytes(t: &Tables) -> Vec<u8> {
     }
     assert_eq!(bytes.len(), 3072);
     bytes
-}
-
-fn record_of(c: &Mlx90641Calibration) -> Record {
-    let gradient = c.temperature_gradient_coefficient();
-    Record {
-        k_v_ptat: c.k_v_ptat(),
-        k_t_ptat: c.k_t_ptat(),
-        v_ptat_25: c.v_ptat_25(),
-        alpha_ptat: c.alpha_ptat(),
-        gain: c.gain(),
-        k_s_ta: c.k_s_ta(),
-        emissivity: c.emissivity().expect("an emissivity"),
-        alpha_cp: c.alpha_cp(Subpage::Zero),
-        k_v_cp: c.k_v_cp(Subpage::Zero),
-        k_ta_cp: c.k_ta_cp(Subpage::Zero),
-        gradient: gradient.unwrap_or(0.0),
-        k_s_to: c.k_s_to().try_into().expect("eight ranges"),
-        corner_temperatures: c.corner_temperatures().try_into().expect("eight corners"),
-        k_v_dd: c.k_v_dd(),
-        v_dd_25: c.v_dd_25(),
-        offset_reference_cp: c.offset_reference_cp(Subpage::Zero),
-        resolution: c.resolution(),
-        has_gradient: u8::from(gradient.is_some()),
-    }
-}
-
-fn tables_of(c: &Mlx90641Calibration) -> Tables {
-    let tables = Tables {
-        offsets: [Subpage::Zero, Subpage::One].map(|subpage| c.offset_reference_pixels(subpage).copied().collect()),
-        alpha: c.alpha_pixels(Subpage::Zero).copied().collect(),
-        k_v: c.k_v_pixels(Subpage::Zero).copied().collect(),
-        k_ta: c.k_ta_pixels(Subpage::Zero).copied().collect(),
-    };
-    assert!(tables.shortest() >= 192, "the crate has 192 entries in each table");
-    tables
-}
-
-// For frames on a card of their own: the crate's load in place of the library's.
-fn by_crate(image: &[u8], tables: &mut Tables) -> Record {
-    let card = Mlx90641Calibration::from_data(image).expect("a realistic card loads");
-    *tables = tables_of(&card);
-    record_of(&card)
 }
 
 // ---- Cards
@@ -515,9 +473,9 @@ fn frame(s: &mut Stream, class: &str, mut f: Frame, mut before: Vec<u32>, given:
 
 // A frame of a room, on a card.
 fn room(n: &mut Numbers, image: &[u8]) -> Frame {
-    let mut tables = Tables { offsets: [vec![], vec![]], alpha: vec![], k_v: vec![], k_ta: vec![] };
-    let record = by_crate(image, &mut tables);
+    let (record, tables) = by_crate(image);
     Frame {
+        image: image.to_vec(),
         record,
         tables,
         emissivity: 0.95,
@@ -552,7 +510,7 @@ fn caller_corners(s: &mut Stream, n: &mut Numbers) {
     for emissivity in [1.0, 0.5, 1.5, -1.0, -0.5, infinity, -infinity, 0.0, -0.0, f32::NAN, f32::from_bits(0xFFC0_0001), least, 1e38] {
         corner(s, n, "emissivities", |f| f.emissivity = emissivity);
     }
-    for (heat, reflected) in [(0, None), (1, None), (2, None), (3, None), (0, Some(-40.0)), (0, Some(f32::NAN)), (0, Some(-infinity)), (0, Some(-0.0))] {
+    for (heat, reflected) in [(0, None), (1, None), (2, None), (3, None), (4, None), (0, Some(-40.0)), (0, Some(f32::NAN)), (0, Some(-infinity)), (0, Some(-0.0))] {
         corner(s, n, "reflected temperatures", |f| (f.heat, f.reflected, f.emissivity) = (heat, reflected, 0.9));
     }
     for gradient in [None, Some(0.0), Some(-0.0), Some(1.0), Some(-4.0), Some(f32::NAN)] {
@@ -665,7 +623,7 @@ fn known_roots(s: &mut Stream, n: &mut Numbers) {
 // Any frame of the comparison's.
 fn made_frame(s: &mut Stream, k: u64) {
     let mut n = Numbers::new(SEED * 1_000_000 + k);
-    let (class, f) = frames::made(&mut n, by_crate);
+    let (class, f) = frames::made(&mut n);
     let before = frames::destination(&mut n, class);
     frame(s, &format!("made, {class}"), f, before, None, &mut n);
 }

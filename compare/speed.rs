@@ -76,6 +76,7 @@ fn frames() -> Vec<Frame> {
     };
     (0..16)
         .map(|_| Frame {
+            image: IMAGE.to_vec(),
             record: loaded.calibration,
             tables: tables.clone(),
             emissivity: 0.95,

@@ -3,6 +3,7 @@
 use super::library::{Frame, Record, Tables, HEATS};
 use subject::calculations;
 use subject::common::{Address, CalibrationData, MelexisCamera, PixelAddressRange};
+use subject::mlx90641::{Mlx90641, Mlx90641Calibration};
 use subject::util::Sealed;
 use subject::{AccessPattern, Subpage};
 use std::iter;
@@ -211,7 +212,8 @@ macro_rules! by_heat {
             0 => by_range!($call, $f, 0, $given),
             1 => by_range!($call, $f, 1, $given),
             2 => by_range!($call, $f, 2, $given),
-            _ => by_range!($call, $f, 3, $given),
+            3 => by_range!($call, $f, 3, $given),
+            _ => by_range!($call, $f, 4, $given),
         }
     };
 }
@@ -222,4 +224,23 @@ pub fn raw_ir_to_temperatures(f: &Frame, t_a: f32, destination: &mut [f32]) {
 
 pub fn raw_pixels_to_temperatures(f: &Frame, destination: &mut [f32]) -> f32 {
     by_heat!(in_one_pass, f, (f, destination))
+}
+
+// The crate's own camera and calibration, which a realistic frame is made for.
+const _: () = assert!(Mlx90641::BASIC_TEMPERATURE_RANGE == 2 && Mlx90641::SELF_HEATING == HEATS[0]);
+
+pub fn own_infrared(f: &Frame, destination: &mut [f32]) -> f32 {
+    let own = Mlx90641Calibration::from_data(&f.image).expect("a realistic card loads");
+    let mut valid = f.mask.iter().map(|byte| *byte != 0);
+    let (correction, pattern) = (f.resolution_correction, AccessPattern::Interleave);
+    calculations::raw_pixels_to_ir_data(&own, f.emissivity, correction, &f.pixels, ram(f), subpage(f), pattern, &mut valid, destination)
+}
+
+pub fn own_one_pass(f: &Frame, destination: &mut [f32]) -> f32 {
+    let own = Mlx90641Calibration::from_data(&f.image).expect("a realistic card loads");
+    let mut valid = f.mask.iter().map(|byte| *byte != 0);
+    let (correction, pattern) = (f.resolution_correction, AccessPattern::Interleave);
+    calculations::raw_pixels_to_temperatures(
+        &own, f.emissivity, f.reflected, correction, &f.pixels, ram(f), subpage(f), pattern, &mut valid, destination,
+    )
 }
