@@ -5,7 +5,7 @@ use std::sync::OnceLock;
 #[path = "../bindings/rust/src/border.rs"]
 mod border;
 use border::{Heat, Reading};
-pub use border::{alpha_row, Answer, Load, Part, Ram, Record, Word};
+pub use border::{Answer, Load, Part, Ram, Record, Word};
 
 /// The five tables of a card.
 #[derive(Clone, Debug)]
@@ -74,6 +74,10 @@ pub fn check(word: u16) -> Word {
         answer = Word { number: 0, place: 0, value: 0, word: 3 };
     }
     answer
+}
+
+pub fn alpha_row(image: &[u8], row: usize) -> Part {
+    border::alpha_row(image, row)
 }
 
 pub fn subpage_offsets(zero: &[i16], one: &[i16], subpage: u8) -> Part {

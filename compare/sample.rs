@@ -37,7 +37,6 @@ use library::{Frame, Record, Tables, HEATS};
 use mlx9064x::error::LibraryError;
 use mlx9064x::mlx90641::hamming::{add_checksum, validate_checksum};
 use mlx9064x::mlx90641::Mlx90641Calibration;
-use mlx9064x::{CalibrationData, Subpage};
 use numbers::Numbers;
 use std::collections::BTreeMap;
 use tally::of_crate;
@@ -645,8 +644,8 @@ fn on_cards(s: &mut Stream, code: &Code, n: &mut Numbers) {
     on_card(s, code, n, "all zero", &[0; 832], 6391);
     on_card(s, code, n, "sound", &sound(), 6391);
     on_card(s, code, n, "sound, gain below 0", &sound(), -6391);
-    on_card(s, code, n, "alpha infinite", &with(&[(28, 2047), (46, 0), (52, 0)]), 6391);
-    on_card(s, code, n, "K infinite", &with(&[(22, 2047), (24, 2047)]), 6391);
+    on_card(s, code, n, "alpha at its largest", &with(&[(28, 2047), (46, 0), (52, 0)]), 6391);
+    on_card(s, code, n, "K at its largest", &with(&[(22, 2047), (24, 2047)]), 6391);
     for _ in 0..8 {
         let data = cards::realistic(n);
         on_card(s, code, n, "realistic", &data, 6391);
