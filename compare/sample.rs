@@ -619,6 +619,16 @@ fn known_roots(s: &mut Stream, n: &mut Numbers) {
     }
 }
 
+// The first root is of -0: A^3 × v and A^4 × t_ar vanish, both from below. Its +0 leaves a temperature.
+fn root_of_minus_zero(s: &mut Stream, n: &mut Numbers) {
+    let mut f = room(n, &[0; 1664]);
+    f.tables.alpha = vec![-1e-20; 192];
+    f.record.k_s_to[f.range] = 1.0;
+    (f.record.has_gradient, f.emissivity, f.reflected) = (0, 0.5, Some(200.0));
+    let before = (1..193).map(|i| (1e-6 * i as f32).to_bits()).collect();
+    frame(s, "root of -0", f, before, Some(25.0), n);
+}
+
 // Any frame of the comparison's.
 fn made_frame(s: &mut Stream, k: u64) {
     let mut n = Numbers::new(SEED * 1_000_000 + k);
@@ -681,6 +691,7 @@ fn main() {
     divisors(&mut s, &mut n);
     readings(&mut s, &mut n);
     known_roots(&mut s, &mut n);
+    root_of_minus_zero(&mut s, &mut n);
     for k in 0..FRAMES_MADE {
         made_frame(&mut s, k);
     }

@@ -23,6 +23,7 @@ pub fn load(
     load_parts(block, image, offsets0, offsets1, alpha, k_v, k_ta)
 }
 
+// The first so many entries of each table are lent.
 fn load_parts(
     block: &[u8],
     image: &[u8],

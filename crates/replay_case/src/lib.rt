@@ -33,6 +33,7 @@ fn last(differs: u8, record: Calibration) -> Case {
     }
 }
 
+// A whole case, after which another may come.
 fn counted(counts: u8, differs: u8, record: Calibration) -> Case {
     Case {
         more: true,
@@ -42,6 +43,7 @@ fn counted(counts: u8, differs: u8, record: Calibration) -> Case {
     }
 }
 
+// A card that loads, and behind it the record and the tables that it must give.
 fn good_card(
     head: &[u8; 16],
     offsets0: &mut [i16; 200],
@@ -75,6 +77,7 @@ fn good_card(
     counted(CARD, differs, record)
 }
 
+// A card that is refused.
 fn refused_card(
     head: &[u8; 16],
     offsets0: &mut [i16; 200],
@@ -94,6 +97,7 @@ fn refused_card(
     counted(CARD, differs, record)
 }
 
+// A record for the frames that follow.
 fn record_of_frames(record: Calibration) -> Case {
     let mut block = [0u8; 100];
     let n = io::read_full(STDIN_FILENO, &mut block);
@@ -103,6 +107,7 @@ fn record_of_frames(record: Calibration) -> Case {
     counted(NOTHING, stored::AGREES, replay_card::record_of(&block))
 }
 
+// Tables for the frames that follow.
 fn tables_of_frames(
     record: Calibration,
     offsets0: &mut [i16; 200],
@@ -124,6 +129,7 @@ fn tables_of_frames(
     counted(NOTHING, stored::AGREES, record)
 }
 
+// A frame, on the record and the tables that stand.
 fn frame<'a>(
     record: Calibration,
     offsets0: &'a [i16; 200],

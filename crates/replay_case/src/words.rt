@@ -3,10 +3,12 @@ use hamming::Checked;
 use hamming::Encoded;
 use refusal::Refusal;
 
+// Whether a refusal is the one stored.
 fn refused_so(head: &[u8], refusal: Refusal) -> bool {
     stored::verdict_is(head, refusal.number(), refusal.place(), refusal.value())
 }
 
+// Whether an answer is the one stored.
 fn answered_so(head: &[u8], answer: u16) -> bool {
     if !stored::verdict_is(head, 0, 0, 0) {
         return false;

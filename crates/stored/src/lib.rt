@@ -1,4 +1,4 @@
-// Numbers in a block of bytes, upper byte first; past the block's end every byte is 0. And tables beside a block.
+// What the cases of a stored stream share: what they may differ in, numbers in a block of bytes, and tables beside a block.
 ghost use Prim.Native.Nat.{_≤_};
 
 // What a case may differ in.
@@ -22,7 +22,7 @@ pub const ONE_PASS: u8 = 8;
 
 pub const STREAM: u8 = 9;
 
-// ---- Numbers
+// ---- Numbers, upper byte first. Past the end of a block every byte is 0
 
 pub fn byte_at(block: &[u8], at: usize) -> u8 {
     if at < block.len() { block[at] } else { 0 }
