@@ -24,8 +24,20 @@ pub fn image_of(data: &Data) -> Vec<u8> {
     data.iter().flat_map(|d| document::encode(d % 2048).to_be_bytes()).collect()
 }
 
-pub fn bits11(z: i32) -> u16 {
+fn bits11(z: i32) -> u16 {
     z.rem_euclid(2048) as u16
+}
+
+/// The sound card with raw offsets of 0 but for one, at a word.
+pub fn offset_card(scale: u16, average: i32, raw: i32, place: usize) -> Data {
+    let mut data = sound();
+    for k in (64..256).chain(640..832) {
+        data[k] = 0;
+    }
+    data[16] = scale << 5;
+    (data[17], data[18]) = (bits11(average) >> 5, bits11(average) & 31);
+    data[place] = bits11(raw);
+    data
 }
 
 /// A card such as a factory may write: the sound one with every field moved.
@@ -423,13 +435,7 @@ fn in_order(tally: &mut Tally, code: &Code, n: &mut Numbers) {
         for average in [0, 1, -1, 1023, -1024] {
             for raw in [0, 1, -1, 2, -2, 1023, -1024] {
                 for place in [64, 255, 640, 831] {
-                    let mut data = sound();
-                    for k in (64..256).chain(640..832) {
-                        data[k] = 0;
-                    }
-                    data[16] = scale << 5;
-                    (data[17], data[18]) = (bits11(average) >> 5, bits11(average) & 31);
-                    data[place] = bits11(raw);
+                    let data = offset_card(scale, average, raw, place);
                     let label = format!("scale {scale}, average {average}, raw {raw} at word {place}");
                     judge(tally, code, "each offset scale", &image_of(&data), &tables, &label);
                 }

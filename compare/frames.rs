@@ -6,8 +6,8 @@ use crate::numbers::Numbers;
 use crate::tally::{of_crate, progress, Tally};
 use crate::{published, rooted};
 
-// What the crate said: t_a, where the call has one, and the destination.
-type Said = Option<(Option<f32>, Vec<f32>)>;
+/// What the crate said, unless it panicked: t_a and the destination.
+pub type Said = Option<(f32, Vec<f32>)>;
 
 // How the published `powf` differs: in temperatures of one class of frames.
 #[derive(Default)]
@@ -203,6 +203,14 @@ fn floats(bits: &[u32]) -> Vec<f32> {
     bits.iter().map(|b| f32::from_bits(*b)).collect()
 }
 
+/// A call of the crate's on a destination of these bits.
+pub fn of_call(before: &[u32], call: impl FnOnce(&mut [f32]) -> f32) -> Said {
+    of_crate(|| {
+        let mut destination = floats(before);
+        (call(&mut destination), destination)
+    })
+}
+
 fn same(of_crate: f32, of_library: u32) -> bool {
     if of_crate.is_nan() {
         of_library == 0x7FC0_0000
@@ -217,7 +225,6 @@ struct Judged<'a> {
     mask: &'a [u8],
     before: &'a [u32],
     count: usize,
-    t_a: Option<f32>,
 }
 
 // One call: its verdict by the document, the library's answer and destination, and what the crate said. True if there are pixels to go on with.
@@ -241,11 +248,8 @@ fn judge(tally: &mut Tally, j: &Judged, verdict: Verdict, answer: Answer, after:
         tally.disagree(|| format!("{} {}: the crate panics, the library does not refuse", j.call, j.label));
         return false;
     };
-    // Infrared to temperature hands its own t_a back; the others hand back the frame's.
-    if let Some(t_a) = t_a.or(j.t_a) {
-        if !same(t_a, answer.t_a) {
-            tally.disagree(|| format!("{} {}: t_a {t_a:?}, library 0x{:08X}", j.call, j.label, answer.t_a));
-        }
+    if !same(*t_a, answer.t_a) {
+        tally.disagree(|| format!("{} {}: t_a {t_a:?}, library 0x{:08X}", j.call, j.label, answer.t_a));
     }
     let mut lost = 0;
     for (i, (want, is)) in wanted.iter().zip(after).enumerate() {
@@ -304,19 +308,11 @@ fn one(tally: &mut Tally, powf: &mut [Powf; 2], n: &mut Numbers, label: &str) {
 
     let mut after = before.clone();
     let answer = library::raw_pixels_to_ir_data(&f, &mut after);
-    let said = of_crate(|| {
-        let mut destination = floats(&before);
-        let t_a = published::raw_pixels_to_ir_data(&f, &mut destination);
-        (Some(t_a), destination)
-    });
-    let j = Judged { call: "infrared", label, mask: &f.mask, before: &before, count, t_a: None };
+    let said = of_call(&before, |destination| published::raw_pixels_to_ir_data(&f, destination));
+    let j = Judged { call: "infrared", label, mask: &f.mask, before: &before, count };
     let infrared = judge(tally, &j, document::infrared(&f), answer, &after, &said).then(|| (after.clone(), f32::from_bits(answer.t_a)));
     if kind == "realistic" {
-        let said = of_crate(|| {
-            let mut destination = floats(&before);
-            let t_a = published::own_infrared(&f, &mut destination);
-            (Some(t_a), destination)
-        });
+        let said = of_call(&before, |destination| published::own_infrared(&f, destination));
         judge(tally, &Judged { call: "infrared by the crate's own types", ..j }, document::infrared(&f), answer, &after, &said);
     }
 
@@ -327,29 +323,17 @@ fn one(tally: &mut Tally, powf: &mut [Powf; 2], n: &mut Numbers, label: &str) {
     };
     let mut after = from.clone();
     let answer = library::raw_ir_to_temperatures(&f, t_a, &mut after);
-    let said = of_crate(|| {
-        let mut destination = floats(&from);
-        rooted::raw_ir_to_temperatures(&f, t_a, &mut destination);
-        (None, destination)
-    });
-    let j = Judged { call: "temperature", label, mask: &f.mask, before: &from, count: 192.min(from.len()), t_a: Some(t_a) };
+    let said = of_call(&from, |destination| rooted::raw_ir_to_temperatures(&f, t_a, destination));
+    let j = Judged { call: "temperature", label, mask: &f.mask, before: &from, count: 192.min(from.len()) };
     judge(tally, &j, document::temperature(&f), answer, &after, &said);
 
     let mut after = before.clone();
     let answer = library::raw_pixels_to_temperatures(&f, &mut after);
-    let said = of_crate(|| {
-        let mut destination = floats(&before);
-        let t_a = rooted::raw_pixels_to_temperatures(&f, &mut destination);
-        (Some(t_a), destination)
-    });
-    let j = Judged { call: "one pass", label, mask: &f.mask, before: &before, count, t_a: None };
+    let said = of_call(&before, |destination| rooted::raw_pixels_to_temperatures(&f, destination));
+    let j = Judged { call: "one pass", label, mask: &f.mask, before: &before, count };
     if judge(tally, &j, document::one_pass(&f), answer, &after, &said) {
         if kind == "realistic" {
-            let said = of_crate(|| {
-                let mut destination = floats(&before);
-                let t_a = rooted::own_one_pass(&f, &mut destination);
-                (Some(t_a), destination)
-            });
+            let said = of_call(&before, |destination| rooted::own_one_pass(&f, destination));
             judge(tally, &Judged { call: "one pass by the crate's own types", ..j }, document::one_pass(&f), answer, &after, &said);
         }
         let mut destination = floats(&before);

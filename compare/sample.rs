@@ -31,8 +31,9 @@ mod rooted {
     include!("subject.rs");
 }
 
-use cards::{bits11, by_crate, image_of, record_of, sound, tables_of, Data};
+use cards::{by_crate, image_of, offset_card, record_of, sound, tables_of, Data};
 use document::{Code, Verdict};
+use frames::{of_call, Said};
 use library::{Frame, Record, Tables, HEATS};
 use mlx9064x::error::LibraryError;
 use mlx9064x::mlx90641::hamming::{add_checksum, validate_checksum};
@@ -222,17 +223,6 @@ fn with(data: &[(usize, u16)]) -> Data {
     card
 }
 
-fn offset_card(scale: u16, average: i32, raw: i32, place: usize) -> Data {
-    let mut data = sound();
-    for k in (64..256).chain(640..832) {
-        data[k] = 0;
-    }
-    data[16] = scale << 5;
-    (data[17], data[18]) = (bits11(average) >> 5, bits11(average) & 31);
-    data[place] = bits11(raw);
-    data
-}
-
 fn lengths_of_cards(s: &mut Stream, code: &Code) {
     let good = image_of(&sound());
     for length in [0, 1, 33, 1663, 1664, 1665, 1680] {
@@ -341,7 +331,7 @@ struct Told {
     after: Vec<u32>,
 }
 
-fn told(s: &mut Stream, call: &str, f: &Frame, verdict: Verdict, before: &[u32], count: usize, said: Option<(f32, Vec<f32>)>) -> Told {
+fn told(s: &mut Stream, call: &str, f: &Frame, verdict: Verdict, before: &[u32], count: usize, said: Said) -> Told {
     let did = if said.is_some() { ANSWERED } else { PANIC };
     s.count(format!("{call}, verdict {}, {}", verdict.0, if did == PANIC { "crate panics" } else { "crate goes on" }));
     let mut told = Told { did, verdict, t_a: 0, lost: 0, after: before.to_vec() };
@@ -374,10 +364,6 @@ fn kind_of(pixel: f32) -> &'static str {
     }
 }
 
-fn floats(bits: &[u32]) -> Vec<f32> {
-    bits.iter().map(|b| f32::from_bits(*b)).collect()
-}
-
 fn put_destination(s: &mut Stream, lent: &[u32]) {
     // What lies past the part that is lent must stay too.
     let rest = (lent.len()..ENTRIES).map(|k| 0x7FB0_0000 + k as u32);
@@ -408,10 +394,7 @@ fn frame(s: &mut Stream, class: &str, mut f: Frame, mut before: Vec<u32>, given:
     f.pixels.truncate(PIXELS);
     f.mask.truncate(ENTRIES);
     let count = 192.min(before.len()).min(f.pixels.len() / 2);
-    let said = of_crate(|| {
-        let mut destination = floats(&before);
-        (published::raw_pixels_to_ir_data(&f, &mut destination), destination)
-    });
+    let said = of_call(&before, |destination| published::raw_pixels_to_ir_data(&f, destination));
     let infrared = told(s, "infrared", &f, document::infrared(&f), &before, count, said);
 
     let (from, t_a) = match given {
@@ -419,17 +402,10 @@ fn frame(s: &mut Stream, class: &str, mut f: Frame, mut before: Vec<u32>, given:
         None if infrared.verdict.0 == 0 && !n.one_in(3) => (infrared.after.clone(), f32::from_bits(infrared.t_a)),
         None => (before.clone(), if n.one_in(2) { n.real(-40.0, 90.0) } else { n.wild() }),
     };
-    let said = of_crate(|| {
-        let mut destination = floats(&from);
-        rooted::raw_ir_to_temperatures(&f, t_a, &mut destination);
-        (t_a, destination)
-    });
+    let said = of_call(&from, |destination| rooted::raw_ir_to_temperatures(&f, t_a, destination));
     let temperatures = told(s, "temperatures", &f, document::temperature(&f), &from, 192.min(from.len()), said);
 
-    let said = of_crate(|| {
-        let mut destination = floats(&before);
-        (rooted::raw_pixels_to_temperatures(&f, &mut destination), destination)
-    });
+    let said = of_call(&before, |destination| rooted::raw_pixels_to_temperatures(&f, destination));
     let pass = told(s, "one pass", &f, document::one_pass(&f), &before, count, said);
 
     lean(s, &f);

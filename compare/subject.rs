@@ -218,8 +218,10 @@ macro_rules! by_heat {
     };
 }
 
-pub fn raw_ir_to_temperatures(f: &Frame, t_a: f32, destination: &mut [f32]) {
-    by_heat!(to_temperatures, f, (f, t_a, destination))
+/// Hands t_a back, as the library does.
+pub fn raw_ir_to_temperatures(f: &Frame, t_a: f32, destination: &mut [f32]) -> f32 {
+    by_heat!(to_temperatures, f, (f, t_a, destination));
+    t_a
 }
 
 pub fn raw_pixels_to_temperatures(f: &Frame, destination: &mut [f32]) -> f32 {
