@@ -248,30 +248,9 @@ fn line(call: &[u8], label: &[u8], ask: Ask, frame: Frame, destination: &[u32; 2
 
 // ---- The calls, on the parts that are lent
 
-fn at_most(n: usize, most: usize) -> usize
-    ensures { λ r. ⌜ r ≤ most ⌝ }
-{
-    if n < most { n } else { most }
-}
-
 // A table's length: 191 for the one that is to be short, and else 192.
 fn entries_of(table: u8, short: u8) -> usize {
     if table == short { 191 } else { 192 }
-}
-
-fn wholes(table: &[i16], n: usize) -> &[i16] {
-    let end = at_most(n, table.len());
-    &table[..end]
-}
-
-fn reals(table: &[f32], n: usize) -> &[f32] {
-    let end = at_most(n, table.len());
-    &table[..end]
-}
-
-fn bytes(list: &[u8], n: usize) -> &[u8] {
-    let end = at_most(n, list.len());
-    &list[..end]
 }
 
 fn infrared_of<'a>(
@@ -286,19 +265,19 @@ fn infrared_of<'a>(
     mask: &[u8],
     destination: &mut [u32],
 ) -> Frame {
-    let entries = at_most(ask.entries, destination.len());
+    let entries = util::least(ask.entries, destination.len());
     calculations::raw_pixels_to_ir_data(
         calibration,
         ask.emissivity,
         supply(),
         ram,
         subpage_of(ask.subpage),
-        wholes(offsets0, entries_of(1, ask.short)),
-        wholes(offsets1, entries_of(2, ask.short)),
-        reals(k_v, entries_of(4, ask.short)),
-        reals(k_ta, entries_of(5, ask.short)),
-        bytes(pixels, ask.bytes),
-        bytes(mask, ask.mask_length),
+        stored::wholes(offsets0, entries_of(1, ask.short)),
+        stored::wholes(offsets1, entries_of(2, ask.short)),
+        stored::reals(k_v, entries_of(4, ask.short)),
+        stored::reals(k_ta, entries_of(5, ask.short)),
+        stored::bytes(pixels, 0, ask.bytes),
+        stored::bytes(mask, 0, ask.mask_length),
         &mut destination[..entries],
     )
 }
@@ -310,15 +289,15 @@ fn temperatures_of(
     mask: &[u8],
     destination: &mut [u32],
 ) -> Frame {
-    let entries = at_most(ask.entries, destination.len());
+    let entries = util::least(ask.entries, destination.len());
     calculations::raw_ir_to_temperatures(
         calibration,
         ask.emissivity,
         ask.t_a,
         ask.range,
         reflected_of(ask),
-        reals(alpha, entries_of(3, ask.short)),
-        bytes(mask, ask.mask_length),
+        stored::reals(alpha, entries_of(3, ask.short)),
+        stored::bytes(mask, 0, ask.mask_length),
         &mut destination[..entries],
     )
 }
@@ -336,7 +315,7 @@ fn pass_of<'a>(
     mask: &[u8],
     destination: &mut [u32],
 ) -> Frame {
-    let entries = at_most(ask.entries, destination.len());
+    let entries = util::least(ask.entries, destination.len());
     calculations::raw_pixels_to_temperatures(
         calibration,
         ask.emissivity,
@@ -345,13 +324,13 @@ fn pass_of<'a>(
         subpage_of(ask.subpage),
         ask.range,
         reflected_of(ask),
-        wholes(offsets0, entries_of(1, ask.short)),
-        wholes(offsets1, entries_of(2, ask.short)),
-        reals(alpha, entries_of(3, ask.short)),
-        reals(k_v, entries_of(4, ask.short)),
-        reals(k_ta, entries_of(5, ask.short)),
-        bytes(pixels, ask.bytes),
-        bytes(mask, ask.mask_length),
+        stored::wholes(offsets0, entries_of(1, ask.short)),
+        stored::wholes(offsets1, entries_of(2, ask.short)),
+        stored::reals(alpha, entries_of(3, ask.short)),
+        stored::reals(k_v, entries_of(4, ask.short)),
+        stored::reals(k_ta, entries_of(5, ask.short)),
+        stored::bytes(pixels, 0, ask.bytes),
+        stored::bytes(mask, 0, ask.mask_length),
         &mut destination[..entries],
     )
 }

@@ -33,11 +33,11 @@ fn load_parts(
     k_v: &mut [f32],
     k_ta: &mut [f32],
 ) -> Loaded {
-    let n1 = stored::at_most(stored::size_at(block, 0), offsets0.len());
-    let n2 = stored::at_most(stored::size_at(block, 2), offsets1.len());
-    let n3 = stored::at_most(stored::size_at(block, 4), alpha.len());
-    let n4 = stored::at_most(stored::size_at(block, 6), k_v.len());
-    let n5 = stored::at_most(stored::size_at(block, 8), k_ta.len());
+    let n1 = util::least(stored::size_at(block, 0), offsets0.len());
+    let n2 = util::least(stored::size_at(block, 2), offsets1.len());
+    let n3 = util::least(stored::size_at(block, 4), alpha.len());
+    let n4 = util::least(stored::size_at(block, 6), k_v.len());
+    let n5 = util::least(stored::size_at(block, 8), k_ta.len());
     eeprom::load(
         image,
         &mut offsets0[..n1],

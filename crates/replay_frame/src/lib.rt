@@ -66,7 +66,7 @@ fn infrared<'a>(
     k_ta: &[f32],
     destination: &mut [u32],
 ) -> Frame {
-    let entries = stored::at_most(stored::size_at(block, 50), destination.len());
+    let entries = util::least(stored::size_at(block, 50), destination.len());
     calculations::raw_pixels_to_ir_data(
         record,
         stored::real_at(block, 0),
@@ -89,7 +89,7 @@ fn temperatures(
     alpha: &[f32],
     destination: &mut [u32],
 ) -> Frame {
-    let entries = stored::at_most(stored::size_at(block, 50), destination.len());
+    let entries = util::least(stored::size_at(block, 50), destination.len());
     calculations::raw_ir_to_temperatures(
         record,
         stored::real_at(block, 0),
@@ -117,7 +117,7 @@ fn one_pass<'a>(
     let subpage = subpage_of(block);
     let range = range_of(block);
     let reflected = reflected_of(block);
-    let entries = stored::at_most(stored::size_at(block, 50), destination.len());
+    let entries = util::least(stored::size_at(block, 50), destination.len());
     calculations::raw_pixels_to_temperatures(
         record,
         stored::real_at(block, 0),

@@ -1,5 +1,4 @@
 // What the cases of a stored stream share: what they may differ in, numbers in a block of bytes, and tables beside a block.
-ghost use Prim.Native.Nat.{_≤_};
 
 // What a case may differ in.
 pub const AGREES: u8 = 0;
@@ -67,27 +66,21 @@ pub fn verdict_is(head: &[u8], number: u64, place: u64, value: u64) -> bool {
 
 // ---- Parts of at most so many entries
 
-pub fn at_most(n: usize, most: usize) -> usize
-    ensures { λ r. ⌜ r ≤ most ⌝ }
-{
-    if n < most { n } else { most }
-}
-
 pub fn wholes(table: &[i16], n: usize) -> &[i16] {
-    let end = at_most(n, table.len());
+    let end = util::least(n, table.len());
     &table[..end]
 }
 
 pub fn reals(table: &[f32], n: usize) -> &[f32] {
-    let end = at_most(n, table.len());
+    let end = util::least(n, table.len());
     &table[..end]
 }
 
 // At most n bytes from a place on.
 pub fn bytes(block: &[u8], from: usize, n: usize) -> &[u8] {
-    let start = at_most(from, block.len());
+    let start = util::least(from, block.len());
     let rest = &block[start..];
-    let end = at_most(n, rest.len());
+    let end = util::least(n, rest.len());
     &rest[..end]
 }
 
