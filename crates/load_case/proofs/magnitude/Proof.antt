@@ -1,4 +1,4 @@
--- `load_runs::magnitude` is safe: -1 less a number below zero is not below zero. Assumes nothing.
+-- `load_case::magnitude` is safe: -1 less a number below zero is not below zero. Assumes nothing.
 use Prim.Native.Nat.{ℕ, suc, _<_}
 use mathlib.Core.Path.{_≡_, sym, ap, subst, _∙_}
 use mathlib.Core.Bool.{true, false}
@@ -11,8 +11,8 @@ use mir.Val.{toZ, ofZ}
 use mir.Facts.{toZ-ofZ}
 use borrow.Author.Needs.{needs}
 use borrow.Author.Tests.{ltb-true, le-ltb}
-use Rattle.load_runs.proofs.magnitude.Statement.{statement}
-use Rattle.load_runs.proofs.magnitude.Tie as tie
+use Rattle.load_case.proofs.magnitude.Statement.{statement}
+use Rattle.load_case.proofs.magnitude.Tie as tie
 
 -- within an i16 and not below zero
 abbrev Small : ℤ → Type 0

@@ -1,8 +1,8 @@
--- `load_runs::kept_whole` is safe and ends: the index stays below the table's 200 entries. Assumes nothing.
+-- `load_case::kept_whole` is safe and ends: the index stays below the table's 200 entries. Assumes nothing.
 use Prim.Native.Nat.{_≤_, _-_}
 use borrow.Author.Needs.{needs}
-use Rattle.load_runs.proofs.kept_whole.Statement.{statement}
-use Rattle.load_runs.proofs.kept_whole.Tie as tie
+use Rattle.load_case.proofs.kept_whole.Statement.{statement}
+use Rattle.load_case.proofs.kept_whole.Tie as tie
 
 abbrev Inv-loop : tie.InvT-loop
 Inv-loop table kept₀ i₀ kept i = i ≤ 200

@@ -1,0 +1,252 @@
+// What crate `load_runs` is made of: images that are made, loads of them, and the lines that tell of a load: a label, the refusal's number
+// (0 for good), its place and its value, and then what the kind of line says.
+ghost use Prim.Native.Nat.{_≤_};
+ghost use lib.ListN.{length};
+use eeprom::Subpage;
+use hamming::Encoded;
+use libc::STDOUT_FILENO;
+use refusal::Verdict;
+
+// One byte more than a card.
+pub type Image = [u8; 1665];
+
+// ---- Writing
+
+fn tab_number(n: u64) {
+    io::write_all(STDOUT_FILENO, b"\t");
+    io::print_decimal(STDOUT_FILENO, n);
+}
+
+fn wide(byte: u8) -> u64 {
+    byte as u64
+}
+
+// How far a number is from 0.
+fn magnitude(z: i16) -> u64 {
+    if z < 0 { (-1 - z) as u64 + 1 } else { z as u64 }
+}
+
+fn tab_signed(z: i16) {
+    io::write_all(STDOUT_FILENO, b"\t");
+    if z < 0 {
+        io::write_all(STDOUT_FILENO, b"-");
+    }
+    io::print_decimal(STDOUT_FILENO, magnitude(z));
+}
+
+fn tab_bits(x: f32) {
+    tab_number(floats::to_bits(x) as u64);
+}
+
+fn line_start(label: &[u8], verdict: Verdict) {
+    io::write_all(STDOUT_FILENO, label);
+    tab_number(verdict.number());
+    tab_number(verdict.place());
+    tab_number(verdict.value());
+}
+
+fn line_end() {
+    io::write_all(STDOUT_FILENO, b"\n");
+}
+
+// ---- Making images
+
+// The bits of a word, 0 to 831.
+pub fn put(image: &mut Image, word: usize, bits: u16) {
+    if 831 < word {
+        return;
+    }
+    let high = word * 2;
+    let low = high + 1;
+    image[high] = (bits / 256) as u8;
+    image[low] = (bits % 256) as u8;
+}
+
+// The chip word of the data.
+pub fn put_data(image: &mut Image, word: usize, data: u16) {
+    let encoded = hamming::encode(data);
+    let Encoded::Word(bits) = encoded else {
+        return;
+    };
+    put(image, word, bits);
+}
+
+// Offset scale and average, the average as 11 bits.
+pub fn put_scale(image: &mut Image, scale: u16, average: u16) {
+    put_data(image, 16, scale % 64 * 32);
+    put_data(image, 17, average / 32);
+    put_data(image, 18, average % 32);
+}
+
+// ---- Loads whose tables are watched: how many entries of all five tables are as before
+
+// A table's length: 191 for the one that is to be short, if any, and else 192, or 200 where `short` is 6.
+fn entries(table: u8, short: u8) -> usize
+    ensures { λ r. ⌜ r ≤ 200 ⌝ }
+{
+    if table == short {
+        return 191;
+    }
+    if short == 6 {
+        return 200;
+    }
+    192
+}
+
+fn kept_whole(table: &[i16; 200]) -> u64 {
+    let mut kept: u64 = 0;
+    for i in 0..200usize {
+        if table[i] == 77 {
+            kept = std::num::wrapping_add_u64(kept, 1);
+        }
+    }
+    kept
+}
+
+fn kept_real(table: &[f32; 200]) -> u64 {
+    let mut kept: u64 = 0;
+    for i in 0..200usize {
+        if table[i] == 77.0 {
+            kept = std::num::wrapping_add_u64(kept, 1);
+        }
+    }
+    kept
+}
+
+// The first `size` bytes are loaded into the starts of the tables.
+fn load_cut(
+    image: &[u8],
+    size: usize,
+    short: u8,
+    offsets0: &mut [i16],
+    offsets1: &mut [i16],
+    alpha: &mut [f32],
+    k_v: &mut [f32],
+    k_ta: &mut [f32],
+) -> Verdict
+    requires { ⌜ size ≤ length (now image) ⌝ }
+    requires { ⌜ (200 ≤ length (now offsets0)) × (200 ≤ length (now offsets1)) × (200 ≤ length (now alpha)) × (200 ≤ length (now «k_v»)) × (200 ≤ length (now «k_ta»)) ⌝ }
+{
+    let n1 = entries(1, short);
+    let n2 = entries(2, short);
+    let n3 = entries(3, short);
+    let n4 = entries(4, short);
+    let n5 = entries(5, short);
+    let got = eeprom::load(
+        &image[..size],
+        &mut offsets0[..n1],
+        &mut offsets1[..n2],
+        &mut alpha[..n3],
+        &mut k_v[..n4],
+        &mut k_ta[..n5],
+    );
+    got.verdict
+}
+
+// The first `size` bytes of an image, into tables of which `short` has 191 entries (6: all have 200).
+pub fn watched(label: &[u8], image: &Image, size: usize, short: u8) {
+    let mut offsets0 = [77i16; 200];
+    let mut offsets1 = [77i16; 200];
+    let mut alpha = [77.0f32; 200];
+    let mut k_v = [77.0f32; 200];
+    let mut k_ta = [77.0f32; 200];
+    let verdict = load_cut(
+        image,
+        util::least(size, 1665),
+        short,
+        &mut offsets0,
+        &mut offsets1,
+        &mut alpha,
+        &mut k_v,
+        &mut k_ta,
+    );
+    line_start(label, verdict);
+    tab_number(kept_whole(&offsets0));
+    tab_number(kept_whole(&offsets1));
+    tab_number(kept_real(&alpha));
+    tab_number(kept_real(&k_v));
+    tab_number(kept_real(&k_ta));
+    line_end();
+}
+
+// ---- Offsets: the answer, and the offset of an entry, which is 192 times the subpage plus the pixel
+
+fn entry_of(offsets0: &[i16; 192], offsets1: &[i16; 192], entry: usize) -> i16 {
+    if entry < 192 {
+        return offsets0[entry];
+    }
+    offsets1[(entry - 192) % 192]
+}
+
+pub fn with_offset(label: &[u8], image: &Image, entry: usize) {
+    let mut offsets0 = [77i16; 192];
+    let mut offsets1 = [77i16; 192];
+    let mut alpha = [77.0f32; 192];
+    let mut k_v = [77.0f32; 192];
+    let mut k_ta = [77.0f32; 192];
+    let got = eeprom::load(
+        image,
+        &mut offsets0,
+        &mut offsets1,
+        &mut alpha,
+        &mut k_v,
+        &mut k_ta,
+    );
+    let verdict = got.verdict;
+    line_start(label, verdict);
+    tab_signed(entry_of(&offsets0, &offsets1, entry));
+    line_end();
+}
+
+// ---- Numbers: the answer, and the bits of alpha, K_V and K_Ta of a pixel and of the record's alpha_CP
+
+pub fn with_numbers(label: &[u8], image: &Image, pixel: usize) {
+    let mut offsets0 = [77i16; 192];
+    let mut offsets1 = [77i16; 192];
+    let mut alpha = [77.0f32; 192];
+    let mut k_v = [77.0f32; 192];
+    let mut k_ta = [77.0f32; 192];
+    let got = eeprom::load(
+        image,
+        &mut offsets0,
+        &mut offsets1,
+        &mut alpha,
+        &mut k_v,
+        &mut k_ta,
+    );
+    let verdict = got.verdict;
+    let record = got.calibration;
+    line_start(label, verdict);
+    let at = pixel % 192;
+    tab_bits(alpha[at]);
+    tab_bits(k_v[at]);
+    tab_bits(k_ta[at]);
+    tab_bits(record.alpha_cp);
+    line_end();
+}
+
+// ---- Readers of parts: the length of a part, and its first and last entry
+
+pub fn row(label: &[u8], image: &[u8], number: usize) {
+    let part = eeprom::alpha_row(image, number);
+    io::write_all(STDOUT_FILENO, label);
+    let length = part.len();
+    tab_number(length as u64);
+    if length > 0 {
+        tab_number(wide(part[0]));
+        tab_number(wide(part[length - 1]));
+    }
+    line_end();
+}
+
+pub fn subpage<'a>(label: &[u8], zero: &'a [i16], one: &'a [i16], which: Subpage) {
+    let part = eeprom::subpage_offsets(zero, one, which);
+    io::write_all(STDOUT_FILENO, label);
+    let length = part.len();
+    tab_number(length as u64);
+    if length > 0 {
+        tab_signed(part[0]);
+        tab_signed(part[length - 1]);
+    }
+    line_end();
+}
