@@ -11,17 +11,7 @@ mod roots;
 mod tally;
 mod words;
 
-#[allow(dead_code)]
-mod published {
-    use mlx9064x as subject;
-    include!("subject.rs");
-}
-
-#[allow(dead_code)]
-mod rooted {
-    use mlx9064x_rooted as subject;
-    include!("subject.rs");
-}
+include!("subjects.rs");
 
 use tally::Tally;
 

@@ -19,17 +19,7 @@ mod numbers;
 #[allow(dead_code)]
 mod tally;
 
-#[allow(dead_code)]
-mod published {
-    use mlx9064x as subject;
-    include!("subject.rs");
-}
-
-#[allow(dead_code)]
-mod rooted {
-    use mlx9064x_rooted as subject;
-    include!("subject.rs");
-}
+include!("subjects.rs");
 
 use cards::{by_crate, image_of, offset_card, record_of, sound, tables_of, Data};
 use document::{Code, Verdict};

@@ -11,13 +11,13 @@ use Rattle.lists.specs.Count.{countBelow}
 use Rattle.floats.specs.Floats.{whole}
 use Rattle.util.specs.Words.{wordAt}
 use Rattle.util.specs.Fields.{signed}
+use Rattle.root.specs.Root.{celsius}
 use Rattle.formulas.specs.declared.CommonIrData.{CommonIrData}
 use Rattle.formulas.specs.declared.CommonToData.{CommonToData}
 use Rattle.formulas.specs.declared.Less.{Less}
 use Rattle.formulas.specs.declared.Pixel.{Pixel}
 use Rattle.formulas.specs.declared.Pixel.the-variants.{Temperature, Lost}
 use Rattle.formulas.specs.Frame.{lessOf}
-use Rattle.root.specs.Root.{celsius}
 use Rattle.formulas.specs.Pixel.{infraredOf, compensatedOf, finalOf, decided, answerOf}
 
 -- mask byte i belongs to pixel i: 0, or none left, means leave it

@@ -1,7 +1,7 @@
 // A card's image to a calibration record and five tables, or a refusal that changes nothing; and two readers of parts.
 ghost use mathlib.Core.Path.{_≡_};
 ghost use mathlib.Core.Bool.{false};
-ghost use Prim.Native.Nat.{ℕ, min, _+_, _*_, _<_, _≤_};
+ghost use Prim.Native.Nat.{ℕ, _+_, _*_, _<_, _≤_};
 ghost use lib.ListN.{length};
 ghost use Rattle.lists.specs.Written.{filled};
 ghost use Rattle.refusal.specs.declared.Verdict.the-variants.{Pass};
@@ -12,7 +12,6 @@ ghost use Rattle.eeprom.specs.Load.{offsetsVerdict, loadVerdict, Filled,
 ghost use Rattle.eeprom.specs.Parts.{rowOf, first192, offsetsOf};
 use calibration::Calibration;
 use offsets::Offset;
-use offsets::Scale;
 use refusal::Refusal;
 use refusal::Verdict;
 use tables::Coefficient;

@@ -2,7 +2,6 @@
 // call and a label, the number that the label speaks of (0 for none), the refusal's number (0 for good) and its place, the bits of t_a
 // and how many pixels were lost (both 0 after a refusal), and then the destination: how many of its 200 entries have the bits that it
 // was filled with, and entries 0, 1, 190, 191 and 192.
-ghost use Prim.Native.Nat.{_≤_};
 use calculations::Frame;
 use calibration::Calibration;
 use calibration::Gradient;

@@ -1,7 +1,5 @@
 // What crate `load_runs` is made of: images that are made, loads of them, and the lines that tell of a load: a label, the refusal's number
 // (0 for good), its place and its value, and then what the kind of line says.
-ghost use Prim.Native.Nat.{_≤_};
-ghost use lib.ListN.{length};
 use eeprom::Subpage;
 use hamming::Encoded;
 use libc::STDOUT_FILENO;
@@ -81,9 +79,7 @@ pub fn put_scale(image: &mut Image, scale: u16, average: u16) {
 // ---- Loads whose tables are watched: how many entries of all five tables are as before
 
 // A table's length: 191 for the one that is to be short, if any, and else 192, or 200 where `short` is 6.
-fn entries(table: u8, short: u8) -> usize
-    ensures { λ r. ⌜ r ≤ 200 ⌝ }
-{
+fn entries(table: u8, short: u8) -> usize {
     if table == short {
         return 191;
     }
@@ -113,36 +109,6 @@ fn kept_real(table: &[f32; 200]) -> u64 {
     kept
 }
 
-// The first `size` bytes are loaded into the starts of the tables.
-fn load_cut(
-    image: &[u8],
-    size: usize,
-    short: u8,
-    offsets0: &mut [i16],
-    offsets1: &mut [i16],
-    alpha: &mut [f32],
-    k_v: &mut [f32],
-    k_ta: &mut [f32],
-) -> Verdict
-    requires { ⌜ size ≤ length (now image) ⌝ }
-    requires { ⌜ (200 ≤ length (now offsets0)) × (200 ≤ length (now offsets1)) × (200 ≤ length (now alpha)) × (200 ≤ length (now «k_v»)) × (200 ≤ length (now «k_ta»)) ⌝ }
-{
-    let n1 = entries(1, short);
-    let n2 = entries(2, short);
-    let n3 = entries(3, short);
-    let n4 = entries(4, short);
-    let n5 = entries(5, short);
-    let got = eeprom::load(
-        &image[..size],
-        &mut offsets0[..n1],
-        &mut offsets1[..n2],
-        &mut alpha[..n3],
-        &mut k_v[..n4],
-        &mut k_ta[..n5],
-    );
-    got.verdict
-}
-
 // The first `size` bytes of an image, into tables of which `short` has 191 entries (6: all have 200).
 pub fn watched(label: &[u8], image: &Image, size: usize, short: u8) {
     let mut offsets0 = [77i16; 200];
@@ -150,16 +116,23 @@ pub fn watched(label: &[u8], image: &Image, size: usize, short: u8) {
     let mut alpha = [77.0f32; 200];
     let mut k_v = [77.0f32; 200];
     let mut k_ta = [77.0f32; 200];
-    let verdict = load_cut(
-        image,
-        util::least(size, 1665),
-        short,
+    let lengths = [
+        entries(1, short),
+        entries(2, short),
+        entries(3, short),
+        entries(4, short),
+        entries(5, short),
+    ];
+    let got = stored::load_parts(
+        stored::bytes(image, 0, size),
+        lengths,
         &mut offsets0,
         &mut offsets1,
         &mut alpha,
         &mut k_v,
         &mut k_ta,
     );
+    let verdict = got.verdict;
     line_start(label, verdict);
     tab_number(kept_whole(&offsets0));
     tab_number(kept_whole(&offsets1));

@@ -20,32 +20,14 @@ pub fn load(
     *k_v = [77.0; 200];
     *k_ta = [77.0; 200];
     let image = stored::bytes(block, 16, stored::size_at(head, 2));
-    load_parts(block, image, offsets0, offsets1, alpha, k_v, k_ta)
-}
-
-// The first so many entries of each table are lent.
-fn load_parts(
-    block: &[u8],
-    image: &[u8],
-    offsets0: &mut [i16],
-    offsets1: &mut [i16],
-    alpha: &mut [f32],
-    k_v: &mut [f32],
-    k_ta: &mut [f32],
-) -> Loaded {
-    let n1 = util::least(stored::size_at(block, 0), offsets0.len());
-    let n2 = util::least(stored::size_at(block, 2), offsets1.len());
-    let n3 = util::least(stored::size_at(block, 4), alpha.len());
-    let n4 = util::least(stored::size_at(block, 6), k_v.len());
-    let n5 = util::least(stored::size_at(block, 8), k_ta.len());
-    eeprom::load(
-        image,
-        &mut offsets0[..n1],
-        &mut offsets1[..n2],
-        &mut alpha[..n3],
-        &mut k_v[..n4],
-        &mut k_ta[..n5],
-    )
+    let lengths = [
+        stored::size_at(block, 0),
+        stored::size_at(block, 2),
+        stored::size_at(block, 4),
+        stored::size_at(block, 6),
+        stored::size_at(block, 8),
+    ];
+    stored::load_parts(image, lengths, offsets0, offsets1, alpha, k_v, k_ta)
 }
 
 fn verdict_same(head: &[u8], verdict: Verdict) -> bool {

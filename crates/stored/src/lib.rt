@@ -1,4 +1,6 @@
-// What the cases of a stored stream share: what they may differ in, numbers in a block of bytes, and tables beside a block.
+// What the programs over cards and frames share: what a case of a stored stream may differ in, numbers in a block of bytes, parts of tables
+// and of images, and tables beside a block.
+use eeprom::Loaded;
 
 // What a case may differ in.
 pub const AGREES: u8 = 0;
@@ -82,6 +84,31 @@ pub fn bytes(block: &[u8], from: usize, n: usize) -> &[u8] {
     let rest = &block[start..];
     let end = util::least(n, rest.len());
     &rest[..end]
+}
+
+// A load into the first so many entries of each table, or into all that it has.
+pub fn load_parts(
+    image: &[u8],
+    lengths: [usize; 5],
+    offsets0: &mut [i16],
+    offsets1: &mut [i16],
+    alpha: &mut [f32],
+    k_v: &mut [f32],
+    k_ta: &mut [f32],
+) -> Loaded {
+    let n1 = util::least(lengths[0], offsets0.len());
+    let n2 = util::least(lengths[1], offsets1.len());
+    let n3 = util::least(lengths[2], alpha.len());
+    let n4 = util::least(lengths[3], k_v.len());
+    let n5 = util::least(lengths[4], k_ta.len());
+    eeprom::load(
+        image,
+        &mut offsets0[..n1],
+        &mut offsets1[..n2],
+        &mut alpha[..n3],
+        &mut k_v[..n4],
+        &mut k_ta[..n5],
+    )
 }
 
 // ---- Whether a table has the entries that are stored from a place on

@@ -1,6 +1,6 @@
 -- `formulas::pixel_answer` meets its contract: a not-a-number is lost, and nothing else is. Assumes nothing.
 use borrow.Author.Needs.{needs}
-use mathlib.Core.Path.{_≡_, sym, ap, _∙_}
+use mathlib.Core.Path.{sym, ap, _∙_}
 use mathlib.Core.Bool.{Bool}
 use lib.Ieee.{Float}
 use Rattle.lists.specs.Pick.{pick}
