@@ -54,7 +54,7 @@ module _ (c : CommonToData) (alpha : List Float) (v : ℕ → Float) (k : ℕ) (
 
   answered : answerAt c alpha v k ≡ Temperature (celsius x)
   unfolding answerAt answerOf temperatureOf finalAt
-  answered = ap (λ (b : Bool). pick b (Lost (v k)) (Temperature (celsius x))) (number (celsius x) _ _ _ (near .whole))
+  answered = ap (λ (b : Bool). pick b (Lost (v k)) (Temperature (celsius x))) (number (celsius x) _ _ _ (near .degrees))
 
   held-is : (mask : List ℕ) (n : ℕ) (d : List ℕ) → n ≤ length d → k < n → touched mask k ≡ true → held (answersInto mask c alpha v n d) k ≡ celsius x
   held-is mask n d l h t =

@@ -2,19 +2,19 @@
 use mathlib.Core.Path.{_≡_, refl, sym, ap, _∙_, subst}
 use mathlib.Core.Bool.{Bool, true, false, _||_, true≢false}
 use Prim.Native.Nat.{ℕ, _+_, _*_, _%_, _^_, _≤_, _<_}
-use native.Mathlib.Nat.{lt-of-not-le, not-le-of-lt, le-antisymm, lt-of-lt-of-le, le-of-eq, eq-of-mul-eq-mul-right}
+use native.Mathlib.Nat.{lt-of-not-le, not-le-of-lt, le-antisymm, lt-of-lt-of-le, le-of-eq}
 use native.Mathlib.Decide.{decLe}
 use native.Mathlib.Omega.{arith}
 use lib.Dec.{T, leb, ltb→lt}
 use lib.Ieee.{Float, nan, inf, fin, binary32, fits, ofBits, toBits, up, down, lt, le, eq}
 use lib.Ieee.Exact.{HasValue}
-use lib.Ieee.Fits.{down-pos}
 use lib.Ieee.Bits.{ofBits-toBits, toBits-lt}
 use lib.Ieee.Positive.{num, den, positive, le→cross}
 use lib.Ieee.Order.{le-of-values}
 use borrow.Author.Tests.{le-leb}
 use Rattle.floats.proofs.Nan.{nan-above}
 use Rattle.root.specs.Root.{field, magnitude}
+use Rattle.root.proofs.Fractions.{same-sign, same-number}
 use Rattle.root.proofs.Magnitude.{mag-step}
 use Rattle.root.proofs.Unique.{mag-mono}
 use Rattle.root.proofs.Values.{bits-value, value-of}
@@ -36,18 +36,6 @@ mag-same p r e = le-antisymm (mag-le-back p r (le-of-eq e)) (mag-le-back r p (le
 mag-zero : magnitude 0 ≡ 0
 unfolding magnitude field
 mag-zero = refl
-
--- ---- one value, two fractions
-
-pub same-sign : (x : Float) (s t : Bool) (a c b d : ℕ) → HasValue x s a c → HasValue x t b d → s ≡ t
-same-sign nan s t a c b d h k = absurd h
-same-sign (inf u) s t a c b d h k = absurd h
-same-sign (fin u m e) s t a c b d h k = sym (h .0) ∙ k .0
-
-pub same-number : (x : Float) (s t : Bool) (a b c : ℕ) → HasValue x s a c → HasValue x t b c → a ≡ b
-same-number nan s t a b c h k = absurd h
-same-number (inf u) s t a b c h k = absurd h
-same-number (fin u m e) s t a b c h k = eq-of-mul-eq-mul-right (down e) (down-pos e) a b (sym (h .1) ∙ k .1)
 
 -- ---- the bits
 

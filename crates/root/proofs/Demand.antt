@@ -29,7 +29,8 @@ use Rattle.root.proofs.Exists.{root-nearest}
 use Rattle.root.proofs.Values.{value-of, root-positive}
 use Rattle.root.proofs.Bits.{mag-le-back, mag-lt-back, bits-number, lt→le, values-of-lt}
 use Rattle.root.proofs.Fourth.{in-between}
-use Rattle.root.proofs.Kelvin.{refrac, difference}
+use Rattle.root.proofs.Fractions.{refrac}
+use Rattle.root.proofs.Kelvin.{difference}
 use Rattle.root.proofs.Nearest.{square-is}
 
 -- ---- by bits
@@ -62,7 +63,7 @@ near b lo hi =
       q = z .q;
       X = z .X;
       value = refrac (ofBits binary32 b) false (z .X * 2 ^ 89) (2 ^ 149) (z .X) (2 ^ 60) (pow-pos 149) (mul-assoc (z .X) (2 ^ 89) (2 ^ 60)) (subst (λ (a : ℕ). HasValue (ofBits binary32 b) false a (2 ^ 149)) (z .value) (value-of b (omega arith)));
-      whole = degrees b z lo hi;
+      degrees = degrees b z lo hi;
       low = subst (λ (c : ℕ). c < z .X) (sym (fourth-is (z .q - 1))) (z .low);
       high = subst (λ (c : ℕ). z .X < c) (sym (fourth-is (z .q + 1))) (z .high);
     }

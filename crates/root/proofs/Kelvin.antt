@@ -2,7 +2,7 @@
 use mathlib.Core.Path.{_≡_, refl, sym, ap, _∙_, subst}
 use mathlib.Core.Bool.{Bool, true, false, cond, true≢false}
 use Prim.Native.Nat.{ℕ, _*_, _-_, _^_, _≤_, _<_}
-use native.Mathlib.Nat.{mul-comm, mul-assoc, mul-right-comm, mul-sub, mul-pos, eq-of-mul-eq-mul-right, lt-of-mul-lt-mul-right, mul-lt-mul-of-pos-right, mul-le-mul-right, le-of-mul-le-mul-right, lt-of-lt-of-le, lt-of-not-le}
+use native.Mathlib.Nat.{mul-comm, mul-assoc, mul-right-comm, mul-sub, mul-pos, lt-of-mul-lt-mul-right, mul-lt-mul-of-pos-right, mul-le-mul-right, le-of-mul-le-mul-right, lt-of-lt-of-le, lt-of-not-le}
 use native.Mathlib.Decide.{decLe}
 use native.Mathlib.Omega.{arith}
 use lib.IntN.{ℤ}
@@ -13,16 +13,7 @@ use lib.Ieee.Exact.{HasValue, round-exact}
 use lib.Ieee.Fits.{down-pos}
 use borrow.Author.Tests.{lt-ltb, le-ltb}
 use Rattle.lists.specs.Pick.{pick}
-
--- a value as another fraction of the same size
-pub refrac : (x : Float) (s : Bool) (a c b d : ℕ) → 0 < c → a * d ≡ b * c → HasValue x s a c → HasValue x s b d
-refrac nan s a c b d p h v = v
-refrac (inf t) s a c b d p h v = v
-refrac (fin t m e) s a c b d p h v = (
-  v .0,
-  eq-of-mul-eq-mul-right c p (m * up e * d) (b * down e)
-      (mul-right-comm (m * up e) d c ∙ ap (λ (x : ℕ). x * d) (v .1) ∙ mul-right-comm a (down e) d ∙ ap (λ (x : ℕ). x * down e) h ∙ mul-right-comm b c (down e)),
-)
+use Rattle.root.proofs.Fractions.{refrac}
 
 -- num / den is w * 2 ^ -15
 exact : (s : Bool) (num den w : ℕ) → 0 < den → w < 0x1000000 → num * 0x8000 ≡ w * den → HasValue (round binary32 s num den) s w 0x8000

@@ -1,6 +1,7 @@
--- Nearest, Demand, Ends and Readings are for callers to cite; the rest is what they lean on.
+-- Apart, Ends, Nearest, Demand and Readings are for callers to cite; the rest is what they lean on.
 mod Patterns
 mod Numbers
+mod Fractions
 mod Squares
 mod Magnitude
 mod Unique
@@ -9,6 +10,7 @@ mod Values
 mod Bits
 mod Fourth
 mod Kelvin
+pub mod Apart
 pub mod Ends
 pub mod Nearest
 pub mod Demand

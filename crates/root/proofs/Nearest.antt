@@ -15,10 +15,11 @@ use Rattle.root.specs.Root.{magnitude, rootPattern, squareRoot, root}
 use Rattle.root.specs.Nearest.{NearestRoot}
 use Rattle.root.proofs.Patterns.{Nearest}
 use Rattle.root.proofs.Squares.{square-le}
+use Rattle.root.proofs.Fractions.{same-number}
 use Rattle.root.proofs.Unique.{mag-mono}
 use Rattle.root.proofs.Exists.{root-nearest}
 use Rattle.root.proofs.Values.{value-of, mag-pos, square-root-bits, positive-root}
-use Rattle.root.proofs.Bits.{mag-lt-back, same-number, bits-finite, bits-number, magnitude-is, bits-some, same-float}
+use Rattle.root.proofs.Bits.{mag-lt-back, bits-finite, bits-number, magnitude-is, bits-some, same-float}
 
 pub square-is : (n : ℕ) → n ^ 2 ≡ n * n
 square-is n = pow-succ' n 1 ∙ ap (λ (x : ℕ). n * x) (pow-succ' n 0 ∙ ap (λ (x : ℕ). n * x) (pow-zero n) ∙ mul-one n)

@@ -11,6 +11,6 @@ pub record Near4 (x t : Float) : Type 0 where
   pub q : ℕ
   pub X : ℕ
   pub value : HasValue x false X (2 ^ 60)
-  pub whole : HasValue t (ltb q 8950579) (pick (ltb q 8950579) (8950579 - q) (q - 8950579)) 32768
+  pub degrees : HasValue t (ltb q 8950579) (pick (ltb q 8950579) (8950579 - q) (q - 8950579)) 32768
   pub low : (q - 1) ^ 4 < X
   pub high : X < (q + 1) ^ 4

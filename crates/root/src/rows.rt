@@ -1,4 +1,4 @@
-// The numbers that the guess is made of. Nothing rests on them but speed.
+// The numbers that the guess is made of, written by tools/root_rows. Nothing rests on them but speed.
 // Near t, where 1 + j / 32 <= t < 1 + (j + 1) / 32, the number t^(-1/4) is about constant(j) + linear(j) t + square(j) t^2 + cube(j) t^3,
 // the cubic that equals it at the four Chebyshev points of that 32nd. An entry past the last is the last.
 
@@ -115,7 +115,7 @@ pub fn square(j: u32) -> f64 {
 
 pub fn cube(j: u32) -> f64 {
     match j {
-        0 => -0.1114471050925108,
+        0 => -0.11144710509251081,
         1 => -0.10099268454331527,
         2 => -0.09178456683814805,
         3 => -0.08364424675488015,

@@ -51,7 +51,7 @@ returns-3 c =
 returns-4 : tie.Need-returns-4
 returns-4 c =
     let st = c .before .before .before .before in
-    infinity-bits ∙ through _ _ (held st) (root-inf _ (toBits-lt binary32 _ (held st)) (c .if4 .taken))
+    infinity-bits ∙ through _ _ (held st) (root-inf _ (toBits-lt binary32 _ (held st)) (omega arith))
 
 returns-5 : tie.Need-returns-5
 returns-5 c =
