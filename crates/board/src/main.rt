@@ -3,6 +3,7 @@
 // served by a buffer of 4,096 bytes that is read until it is full or the input ends; what follows is not read.
 use libc::STDIN_FILENO;
 use libc::STDOUT_FILENO;
+use offsets::Offset;
 use refusal::Verdict;
 
 fn tab_number(n: u64) {
@@ -12,9 +13,10 @@ fn tab_number(n: u64) {
 
 fn load_line(verdict: Verdict) {
     io::write_all(STDOUT_FILENO, b"load");
-    tab_number(verdict.number());
-    tab_number(verdict.place());
-    tab_number(verdict.value());
+    let told = verdict.told();
+    tab_number(told.number);
+    tab_number(told.place);
+    tab_number(told.value);
     io::write_all(STDOUT_FILENO, b"\n");
 }
 
@@ -25,8 +27,8 @@ fn end_line(lines: u64) {
 }
 
 fn run(image: &[u8]) -> Verdict {
-    let mut offsets0 = [0i16; 192];
-    let mut offsets1 = [0i16; 192];
+    let mut offsets0: [Offset; 192] = [0; 192];
+    let mut offsets1: [Offset; 192] = [0; 192];
     let mut alpha = [0.0f32; 192];
     let mut k_v = [0.0f32; 192];
     let mut k_ta = [0.0f32; 192];

@@ -1,40 +1,31 @@
--- Demand 3 at the frame: where 2 ^ 32 ≤ X < 2 ^ 36 for a touched pixel, its bits hold a temperature within 1/32768 degree of X's exact fourth
--- root less 8950579/32768, and of two such pixels, of any frames, the one of the larger X is not the colder. Assumes nothing.
-use Prim.Native.Nat.{ℕ, _≤_, _<_}
+-- Demand 3 at the frame: where 2 ^ 32 ≤ X < 2 ^ 36 for a pixel that is written, its bits hold a temperature within 1/32768 degree of X's
+-- exact fourth root less 8950579/32768, and of two such pixels, of any frames, the one of the larger X is not the colder.
+-- Of any call that writes temperatures of final values X, and so of each. Assumes nothing.
+use Prim.Native.Nat.{ℕ, _≤_}
 use mathlib.Core.Path.{_≡_, refl, sym, ap, _∙_, subst}
-use mathlib.Core.Bool.{Bool, true, false}
+use mathlib.Core.Bool.{Bool, false}
 use mathlib.Core.List.{List}
 use native.Mathlib.Omega.{arith}
 use lib.Dec.{T}
 use lib.ListN.{getD, length}
-use lib.Ieee.{Float, nan, inf, fin, binary32, fits, ofBits, isNan, le, lt}
+use lib.Ieee.{Float, nan, inf, fin, binary32, fits, ofBits, isNan, le}
 use lib.Ieee.Exact.{HasValue}
-use lib.Ieee.Fits.{add-fits, sub-fits}
 use lib.Ieee.Bits.{ofBits-toBits}
 use Rattle.lists.specs.Pick.{pick}
 use Rattle.lists.proofs.Written.{written-at}
-use Rattle.floats.specs.Floats.{powerOfTwo}
-use Rattle.floats.specs.Constants.{freezing}
-use Rattle.root.specs.Root.{root, celsius}
+use Rattle.root.specs.Root.{celsius}
 use Rattle.root.specs.Demand.{Near4}
 use Rattle.root.proofs.Demand as law
 use Rattle.refusal.specs.Refusal.{unless}
 use Rattle.refusal.specs.declared.Verdict.{Verdict}
-use Rattle.formulas.specs.declared.CommonToData.{CommonToData}
 use Rattle.formulas.specs.declared.Pixel.the-variants.{Temperature, Lost}
-use Rattle.formulas.specs.Pixel.{answerOf, temperatureOf, finalOf}
+use Rattle.formulas.specs.Pixel.{answerOf}
+use Rattle.formulas.proofs.Lifted as lifted
 use Rattle.calculations.specs.declared.Frame.{Frame}
-use Rattle.calculations.specs.Pixels.{touched, countOf, infraredAt, answerAt, finalAt, answersInto, bitsOf, held}
-use Rattle.calculations.specs.Frames.{ToCall, PassCall, shared, onward, reads, toCount, Temperatures, Passes}
-use Rattle.calculations.specs.Demand.{finalTo, finalIn, HotTo, HotPass}
-
-final-fits : (c : CommonToData) (alpha : List Float) (v : ℕ → Float) (k : ℕ) → T (fits binary32 (finalAt c alpha v k))
-unfolding finalAt finalOf
-final-fits c alpha v k = add-fits binary32 _ _
-
-celsius-fits : (x : Float) → T (fits binary32 (celsius x))
-unfolding celsius
-celsius-fits x = sub-fits binary32 (root x) freezing
+use Rattle.pixels.specs.Pixels.{touched, held, answerBits, temperatureBits, into}
+use Rattle.calculations.specs.Frames.{countOf, ToCall, PassCall, Writes, Temperatures, Passes, finalAt, infraredAt, onward, toVerdict, passVerdict, toLengths, passLengths}
+use Rattle.calculations.specs.Demand.{Hot}
+use Rattle.pixels.proofs.Lost.{celsius-fits}
 
 -- a number is no not-a-number
 number : (t : Float) (s : Bool) (a b : ℕ) → HasValue t s a b → isNan t ≡ false
@@ -43,56 +34,62 @@ number nan s a b h = absurd h
 number (inf z) s a b h = absurd h
 number (fin z m e) s a b h = refl
 
--- ---- pixel k of a destination that answers were written into
+-- ---- any call
 
-module _ (c : CommonToData) (alpha : List Float) (v : ℕ → Float) (k : ℕ) (from : T (le (powerOfTwo 32) (finalAt c alpha v k))) (under : T (lt (finalAt c alpha v k) (powerOfTwo 36))) where
-  abbrev x : Float
-  x = finalAt c alpha v k
+module _ (X v : ℕ → Float) {verdict : Verdict} {tA : Float} {mask : List ℕ} {n : ℕ} {d d′ : List ℕ} {r : Frame} {k : ℕ}
+    (p : Writes verdict tA mask n (temperatureBits X v) d d′ r) (l : n ≤ length d) (f : T (fits binary32 (X k))) (h : Hot verdict mask n X k) where
+  near-own : Near4 (X k) (celsius (X k))
+  near-own = law.demand (X k) f (h .from) (h .under)
 
-  near : Near4 x (celsius x)
-  near = law.demand x (final-fits c alpha v k) from under
+  answered : answerOf (X k) (v k) ≡ Temperature (celsius (X k))
+  answered = ap (λ (b : Bool). pick b (Lost (v k)) (Temperature (celsius (X k)))) (number (celsius (X k)) _ _ _ (near-own .degrees))
 
-  answered : answerAt c alpha v k ≡ Temperature (celsius x)
-  unfolding answerAt answerOf temperatureOf finalAt
-  answered = ap (λ (b : Bool). pick b (Lost (v k)) (Temperature (celsius x))) (number (celsius x) _ _ _ (near .degrees))
+  -- what the pixel holds at exit
+  holds : held d′ k ≡ celsius (X k)
+  holds =
+      ap (λ (e : List ℕ). held e k) (p .destination ∙ ap (λ (w : Verdict). unless w (into mask (temperatureBits X v) n d) d) (h .passed))
+      ∙ ap (ofBits binary32) (written-at (touched mask) (temperatureBits X v) n d k 0 l (h .below)
+      ∙ ap (λ (b : Bool). pick b (temperatureBits X v k) (getD d k 0)) (h .asked) ∙ ap answerBits answered)
+      ∙ ofBits-toBits binary32 (celsius (X k)) (celsius-fits (X k))
 
-  held-is : (mask : List ℕ) (n : ℕ) (d : List ℕ) → n ≤ length d → k < n → touched mask k ≡ true → held (answersInto mask c alpha v n d) k ≡ celsius x
-  held-is mask n d l h t =
-      ap (ofBits binary32) (written-at (touched mask) (λ (i : ℕ). bitsOf (answerAt c alpha v i)) n d k 0 l h
-      ∙ ap (λ (b : Bool). pick b (bitsOf (answerAt c alpha v k)) (getD d k 0)) t ∙ ap bitsOf answered)
-      ∙ ofBits-toBits binary32 (celsius x) (celsius-fits x)
+  pub near : Near4 (X k) (held d′ k)
+  near = subst (Near4 (X k)) (sym holds) near-own
 
--- ---- infrared to temperature
+-- of two calls of any kinds
+pub grows : (X v X₂ v₂ : ℕ → Float) {verdict verdict₂ : Verdict} {tA tA₂ : Float} {mask mask₂ : List ℕ} {n n₂ : ℕ} {d d′ e e′ : List ℕ} {r q : Frame} {k j : ℕ}
+    → Writes verdict tA mask n (temperatureBits X v) d d′ r → n ≤ length d → T (fits binary32 (X k)) → Hot verdict mask n X k
+    → Writes verdict₂ tA₂ mask₂ n₂ (temperatureBits X₂ v₂) e e′ q → n₂ ≤ length e → T (fits binary32 (X₂ j)) → Hot verdict₂ mask₂ n₂ X₂ j
+    → T (le (X k) (X₂ j)) → T (le (held d′ k) (held e′ j))
+grows X v X₂ v₂ p l f h s m g i o = rw (holds X v p l f h, holds X₂ v₂ s m g i) (law.monotone _ _ f g (h .from) (h .under) (i .from) (i .under) o)
 
-to-is : (f : ToCall) (d d′ : List ℕ) (r : Frame) (k : ℕ) → Temperatures f d d′ r → HotTo f d k → held d′ k ≡ celsius (finalTo f d k)
-to-is f d d′ r k p h =
-    ap (λ (e : List ℕ). held e k) (p .destination ∙ ap (λ (w : Verdict). unless w (answersInto (f .mask) (shared f) (f .alpha) (held d) (toCount d) d) d) (h .passed))
-    ∙ held-is (shared f) (f .alpha) (held d) k (h .from) (h .under) (f .mask) (toCount d) d (omega arith) (h .below) (h .asked)
+-- ---- infrared to temperature, and one pass
 
-pub to-near : (f : ToCall) (d d′ : List ℕ) (r : Frame) (k : ℕ) → Temperatures f d d′ r → HotTo f d k → Near4 (finalTo f d k) (held d′ k)
-to-near f d d′ r k p h =
-    subst (Near4 (finalTo f d k)) (sym (to-is f d d′ r k p h)) (near (shared f) (f .alpha) (held d) k (h .from) (h .under))
+final-fits : (f : ToCall) (v : ℕ → Float) (k : ℕ) → T (fits binary32 (finalAt f v k))
+unfolding finalAt
+final-fits f v k = lifted.final-fits _ _ _ _
+
+abbrev pub HotTo : ToCall → List ℕ → ℕ → Type 0
+HotTo f d k = Hot (toVerdict f d) (f .mask) (countOf (toLengths f d)) (finalAt f (held d)) k
+
+pub to-near : (f : ToCall) (d d′ : List ℕ) (r : Frame) (k : ℕ) → Temperatures f d d′ r → HotTo f d k → Near4 (finalAt f (held d) k) (held d′ k)
+to-near f d d′ r k p h = near (finalAt f (held d)) (held d) p (omega arith) (final-fits f (held d) k) h
 
 pub to-grows : (f g : ToCall) (d d′ e e′ : List ℕ) (r q : Frame) (k j : ℕ) → Temperatures f d d′ r → Temperatures g e e′ q → HotTo f d k → HotTo g e j
-    → T (le (finalTo f d k) (finalTo g e j)) → T (le (held d′ k) (held e′ j))
-to-grows f g d d′ e e′ r q k j p s h i l =
-    rw (to-is f d d′ r k p h, to-is g e e′ q j s i)
-    (law.monotone _ _ (final-fits (shared f) (f .alpha) (held d) k) (final-fits (shared g) (g .alpha) (held e) j) (h .from) (h .under) (i .from) (i .under) l)
+    → T (le (finalAt f (held d) k) (finalAt g (held e) j)) → T (le (held d′ k) (held e′ j))
+to-grows f g d d′ e e′ r q k j p s h i o =
+    grows (finalAt f (held d)) (held d) (finalAt g (held e)) (held e) p (omega arith) (final-fits f (held d) k) h s (omega arith) (final-fits g (held e) j) i o
 
--- ---- both in one pass
+-- X in one pass
+abbrev pub finalIn : PassCall → ℕ → Float
+finalIn f = finalAt (onward f) (infraredAt (f .ir))
 
-pass-is : (f : PassCall) (d d′ : List ℕ) (r : Frame) (k : ℕ) → Passes f d d′ r → HotPass f d k → held d′ k ≡ celsius (finalIn f k)
-pass-is f d d′ r k p h =
-    let n : ℕ = countOf (length d) (length (f .ir .pixels)) in
-    ap (λ (e : List ℕ). held e k) (p .destination ∙ ap (λ (w : Verdict). unless w (answersInto (f .ir .mask) (shared (onward f)) (f .alpha) (infraredAt (reads (f .ir))) n d) d) (h .passed))
-    ∙ held-is (shared (onward f)) (f .alpha) (infraredAt (reads (f .ir))) k (h .from) (h .under) (f .ir .mask) n d (omega arith) (h .below) (h .asked)
+abbrev pub HotPass : PassCall → List ℕ → ℕ → Type 0
+HotPass f d k = Hot (passVerdict f d) (f .ir .mask) (countOf (passLengths f d)) (finalIn f) k
 
 pub pass-near : (f : PassCall) (d d′ : List ℕ) (r : Frame) (k : ℕ) → Passes f d d′ r → HotPass f d k → Near4 (finalIn f k) (held d′ k)
-pass-near f d d′ r k p h =
-    subst (Near4 (finalIn f k)) (sym (pass-is f d d′ r k p h)) (near (shared (onward f)) (f .alpha) (infraredAt (reads (f .ir))) k (h .from) (h .under))
+pass-near f d d′ r k p h = near (finalIn f) (infraredAt (f .ir)) p (omega arith) (final-fits (onward f) (infraredAt (f .ir)) k) h
 
 pub pass-grows : (f g : PassCall) (d d′ e e′ : List ℕ) (r q : Frame) (k j : ℕ) → Passes f d d′ r → Passes g e e′ q → HotPass f d k → HotPass g e j
     → T (le (finalIn f k) (finalIn g j)) → T (le (held d′ k) (held e′ j))
-pass-grows f g d d′ e e′ r q k j p s h i l =
-    rw (pass-is f d d′ r k p h, pass-is g e e′ q j s i)
-    (law.monotone _ _ (final-fits (shared (onward f)) (f .alpha) (infraredAt (reads (f .ir))) k) (final-fits (shared (onward g)) (g .alpha) (infraredAt (reads (g .ir))) j) (h .from) (h .under) (i .from) (i .under) l)
+pass-grows f g d d′ e e′ r q k j p s h i o =
+    grows (finalIn f) (infraredAt (f .ir)) (finalIn g) (infraredAt (g .ir)) p (omega arith) (final-fits (onward f) (infraredAt (f .ir)) k) h s (omega arith) (final-fits (onward g) (infraredAt (g .ir)) j) i o

@@ -1,7 +1,6 @@
--- Steps, Stages, Opened and Calls lead to the code; Single and Demand are the laws that callers cite.
-pub mod Steps
-pub mod Stages
-pub mod Opened
-pub mod Calls
+-- Single and Demand are the laws that callers cite; the others lead to the code.
+mod Opened
+mod Calls
+mod Both
 pub mod Single
 pub mod Demand

@@ -1,15 +1,22 @@
--- Each call admits one answer: of two answers and destinations that it says of the same inputs, each part is the same. Assumes nothing.
+-- Each frame call admits one answer: of two answers and destinations that it says of the same inputs, each part is the same.
+-- Of any call, and so of each. Assumes nothing.
 use Prim.Native.Nat.{ℕ}
 use mathlib.Core.Path.{_≡_, sym, _∙_}
 use mathlib.Core.List.{List}
+use lib.Ieee.{Float}
+use Rattle.refusal.specs.declared.Verdict.{Verdict}
 use Rattle.calculations.specs.declared.Frame.{Frame}
-use Rattle.calculations.specs.Frames.{IrCall, ToCall, PassCall, Infrareds, Temperatures, Passes}
+use Rattle.calculations.specs.Frames.{IrCall, ToCall, PassCall, Writes, Infrareds, Temperatures, Passes}
+
+pub single : {verdict : Verdict} {tA : Float} {mask : List ℕ} {n : ℕ} {bits : ℕ → ℕ} {d x y : List ℕ} {r q : Frame}
+    → Writes verdict tA mask n bits d x r → Writes verdict tA mask n bits d y q → (r ≡ q) × (x ≡ y)
+single p s = (p .answer ∙ sym (s .answer), p .destination ∙ sym (s .destination))
 
 pub single-infrared : (f : IrCall) (d x y : List ℕ) (r q : Frame) → Infrareds f d x r → Infrareds f d y q → (r ≡ q) × (x ≡ y)
-single-infrared f d x y r q p s = (p .answer ∙ sym (s .answer), p .destination ∙ sym (s .destination))
+single-infrared f d x y r q p s = single p s
 
 pub single-temperatures : (f : ToCall) (d x y : List ℕ) (r q : Frame) → Temperatures f d x r → Temperatures f d y q → (r ≡ q) × (x ≡ y)
-single-temperatures f d x y r q p s = (p .answer ∙ sym (s .answer), p .destination ∙ sym (s .destination))
+single-temperatures f d x y r q p s = single p s
 
 pub single-pass : (f : PassCall) (d x y : List ℕ) (r q : Frame) → Passes f d x r → Passes f d y q → (r ≡ q) × (x ≡ y)
-single-pass f d x y r q p s = (p .answer ∙ sym (s .answer), p .destination ∙ sym (s .destination))
+single-pass f d x y r q p s = single p s

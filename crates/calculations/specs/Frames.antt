@@ -1,42 +1,61 @@
 -- What the three calls say: their answer, and the whole destination at exit. Assumes nothing.
-use Prim.Native.Nat.{ℕ, min}
+use Prim.Native.Nat.{ℕ, min, _*_, _/_}
 use mathlib.Core.Path.{_≡_}
 use mathlib.Core.List.{List}
-use lib.IntN.{ℤ}
+use lib.IntN.{ℤ, pos}
 use lib.ListN.{getD, length}
 use lib.Ieee.{Float, nan, binary32, toBits}
-use Rattle.floats.specs.Floats.{whole}
+use Rattle.floats.specs.Floats.{real}
+use Rattle.map.specs.Map.{framePixels}
 use Rattle.refusal.specs.Refusal.{unless}
+use Rattle.refusal.specs.Order.{firstOf}
 use Rattle.refusal.specs.declared.Verdict.{Verdict}
 use Rattle.refusal.specs.declared.Verdict.the-variants as Verdict
 use Rattle.calibration.specs.declared.Calibration.{Calibration}
 use Rattle.eeprom.specs.declared.Subpage.{Subpage}
 use Rattle.eeprom.specs.Parts.{offsetsOf}
 use Rattle.formulas.specs.declared.CommonIrData.{CommonIrData}
-use Rattle.formulas.specs.declared.CommonToData.{CommonToData}
 use Rattle.formulas.specs.declared.RamData.{RamData}
 use Rattle.formulas.specs.declared.Reflected.{Reflected}
 use Rattle.formulas.specs.declared.Supply.{Supply}
 use Rattle.formulas.specs.Frame.{commonOf}
-use Rattle.formulas.specs.Pixel.{termOf, commonToOf}
-use Rattle.gates.specs.Gate.{infraredVerdict, temperatureVerdict, onePassVerdict}
-use Rattle.calculations.specs.Pixels.{Raw, raw, countOf, infraredAt, infraredInto, infraredLost, answersInto, answersLost, held}
+use Rattle.formulas.specs.Pixel.{infraredOf, reflectedOf, tArOf, sensitivityOf, finalOf}
+use Rattle.gates.specs.declared.Lengths.{Lengths}
+use Rattle.gates.specs.Gate.{infraredTests, temperatureTests, onePassTests}
+use Rattle.pixels.specs.Pixels.{readingAt, held, infraredBits, temperatureBits, into, lostOf}
 use Rattle.calculations.specs.declared.Frame.{Frame}
 use Rattle.calculations.specs.declared.Frame.the-variants.{Done, Refused}
+
+-- two bytes to a pixel
+abbrev pub frameBytes : ℕ
+frameBytes = 2 * framePixels
+
+-- n: the least of 192, destination length and half the pixel bytes, rounded down
+abbrev pub countOf : Lengths → ℕ
+countOf l = min framePixels (min (l .destination) (l .pixels / 2))
+
+-- ---- what any frame call says
 
 -- a refusal, or what the frame answers
 abbrev pub answerBy : Verdict → Frame → Frame
 answerBy Verdict.Pass done = done
 answerBy (Verdict.Refused refusal) done = Refused refusal
 
+-- of the destination d before and d′ after, and of the answer r: refused by the verdict, or pixel k below n, where the mask asks for it, is
+-- written as `bits k`, and the answer holds t_a and how many were written as the pattern
+pub record Writes (verdict : Verdict) (tA : Float) (mask : List ℕ) (n : ℕ) (bits : ℕ → ℕ) (d d′ : List ℕ) (r : Frame) : Type 0 where
+  pub answer : r ≡ answerBy verdict (Done (toBits binary32 tA) (lostOf mask bits n))
+  pub destination : d′ ≡ unless verdict (into mask bits n d) d
+
 -- ---- pixels to infrared
 
--- what the call takes
+-- what the call takes, and the compensation pixel's reading
 pub record IrCall : Type 0 where
   pub calibration : Calibration
   pub emissivity : Float
   pub supply : Supply
   pub ram : RamData
+  pub compensation : Float
   pub subpage : Subpage
   pub offsets0 : List ℤ
   pub offsets1 : List ℤ
@@ -45,12 +64,13 @@ pub record IrCall : Type 0 where
   pub pixels : List ℕ
   pub mask : List ℕ
 
-abbrev pub irCall : Calibration → Float → Supply → RamData → Subpage → List ℤ → List ℤ → List Float → List Float → List ℕ → List ℕ → IrCall
-irCall c e s ram sub o0 o1 v t p m = record {
+abbrev pub irCall : Calibration → Float → Supply → RamData → Float → Subpage → List ℤ → List ℤ → List Float → List Float → List ℕ → List ℕ → IrCall
+irCall c e s ram compensation sub o0 o1 v t p m = record {
   calibration = c;
   emissivity = e;
   supply = s;
   ram = ram;
+  compensation = compensation;
   subpage = sub;
   offsets0 = o0;
   offsets1 = o1;
@@ -60,25 +80,31 @@ irCall c e s ram sub o0 o1 v t p m = record {
   mask = m;
 }
 
+-- the frame's own compensation reading
+abbrev pub ownReading : RamData → Float
+ownReading ram = real (ram .«compensation_pixel»)
+
 -- the four numbers common to all pixels
 unfoldable pub common : IrCall → CommonIrData
 common f = commonOf (f .calibration) (f .emissivity) (f .supply) (f .ram)
 
--- what its pixels are read with: the offsets are those of the asked subpage, the compensation reading is the frame's own
-unfoldable pub reads : IrCall → Raw
-reads f =
-    raw (common f) (termOf (f .calibration) (common f) (whole (f .ram .«compensation_pixel»))) (f .pixels)
-    (offsetsOf (f .offsets0) (f .offsets1) (f .subpage)) (f .kV) (f .kTa)
+-- the infrared number of pixel k, with the offsets of the asked subpage
+unfoldable pub infraredAt : IrCall → ℕ → Float
+infraredAt f k =
+    infraredOf (f .calibration) (common f) (f .compensation) (readingAt (f .pixels) k)
+    (real (getD (offsetsOf (f .offsets0) (f .offsets1) (f .subpage)) k (pos 0))) (getD (f .kV) k nan) (getD (f .kTa) k nan)
 
-unfoldable pub irVerdict : IrCall → Verdict
-irVerdict f =
-    infraredVerdict (f .calibration) (f .emissivity) (f .ram) (min (min (length (f .offsets0)) (length (f .offsets1))) (min (length (f .kV)) (length (f .kTa))))
+abbrev pub irTable : IrCall → ℕ
+irTable f = min (min (length (f .offsets0)) (length (f .offsets1))) (min (length (f .kV)) (length (f .kTa)))
 
--- d and d′ are the destination before and after
-pub record Infrareds (f : IrCall) (d d′ : List ℕ) (r : Frame) : Type 0 where
-  pub answer : r ≡ answerBy (irVerdict f)
-      (Done (toBits binary32 (common f .«t_a»)) (infraredLost (f .mask) (reads f) (countOf (length d) (length (f .pixels)))))
-  pub destination : d′ ≡ unless (irVerdict f) (infraredInto (f .mask) (reads f) (countOf (length d) (length (f .pixels))) d) d
+abbrev pub irLengths : IrCall → List ℕ → Lengths
+irLengths f d = record { table = irTable f; pixels = length (f .pixels); destination = length d }
+
+unfoldable pub irVerdict : IrCall → List ℕ → Verdict
+irVerdict f d = firstOf (infraredTests (f .calibration) (f .emissivity) (f .ram) (irLengths f d))
+
+abbrev pub Infrareds : IrCall → List ℕ → List ℕ → Frame → Type 0
+Infrareds f d d′ r = Writes (irVerdict f d) (common f .«t_a») (f .mask) (countOf (irLengths f d)) (infraredBits (infraredAt f)) d d′ r
 
 -- ---- infrared to temperature
 
@@ -102,20 +128,23 @@ toCall c e tA range reflected alpha mask = record {
   mask = mask;
 }
 
--- what all pixels share, K_sTo being that of the basic range
-unfoldable pub shared : ToCall → CommonToData
-shared f = commonToOf (f .calibration) (f .emissivity) (f .ambient) (f .reflected) (getD (f .calibration .«k_s_to») (f .range) nan)
+-- document 01's X of pixel k of infrared v; k is K_sTo of the basic range
+unfoldable pub finalAt : ToCall → (ℕ → Float) → ℕ → Float
+finalAt f v k =
+    finalOf (getD (f .calibration .«k_s_to») (f .range) nan) (tArOf (f .ambient) (reflectedOf (f .reflected) (f .ambient)) (f .emissivity))
+    (sensitivityOf (f .calibration) (f .ambient) (getD (f .alpha) k nan)) (v k)
 
-unfoldable pub toVerdict : ToCall → Verdict
-toVerdict f = temperatureVerdict (f .emissivity) (f .range) (length (f .alpha))
+-- no pixel bytes are taken, so none are wanting
+abbrev pub toLengths : ToCall → List ℕ → Lengths
+toLengths f d = record { table = length (f .alpha); pixels = frameBytes; destination = length d }
 
--- no pixel bytes are read: the least of 192 and the destination's length
-abbrev pub toCount : List ℕ → ℕ
-toCount d = min 192 (length d)
+unfoldable pub toVerdict : ToCall → List ℕ → Verdict
+toVerdict f d = firstOf (temperatureTests (f .emissivity) (f .range) (toLengths f d))
 
-pub record Temperatures (f : ToCall) (d d′ : List ℕ) (r : Frame) : Type 0 where
-  pub answer : r ≡ answerBy (toVerdict f) (Done (toBits binary32 (f .ambient)) (answersLost (f .mask) (shared f) (f .alpha) (held d) (toCount d)))
-  pub destination : d′ ≡ unless (toVerdict f) (answersInto (f .mask) (shared f) (f .alpha) (held d) (toCount d) d) d
+-- the infrared numbers are those that the destination holds
+abbrev pub Temperatures : ToCall → List ℕ → List ℕ → Frame → Type 0
+Temperatures f d d′ r =
+    Writes (toVerdict f d) (f .ambient) (f .mask) (countOf (toLengths f d)) (temperatureBits (finalAt f (held d)) (held d)) d d′ r
 
 -- ---- both in one pass
 
@@ -132,14 +161,13 @@ passCall ir range reflected alpha = record { ir = ir; range = range; reflected =
 abbrev pub onward : PassCall → ToCall
 onward f = toCall (f .ir .calibration) (f .ir .emissivity) (common (f .ir) .«t_a») (f .range) (f .reflected) (f .alpha) (f .ir .mask)
 
-unfoldable pub passVerdict : PassCall → Verdict
-passVerdict f =
-    onePassVerdict (f .ir .calibration) (f .ir .emissivity) (f .ir .ram) (f .range)
-    (min (min (length (f .ir .offsets0)) (length (f .ir .offsets1))) (min (length (f .alpha)) (min (length (f .ir .kV)) (length (f .ir .kTa)))))
+abbrev pub passLengths : PassCall → List ℕ → Lengths
+passLengths f d = record { table = min (length (f .alpha)) (irTable (f .ir)); pixels = length (f .ir .pixels); destination = length d }
 
-pub record Passes (f : PassCall) (d d′ : List ℕ) (r : Frame) : Type 0 where
-  pub answer : r ≡ answerBy (passVerdict f)
-      (Done (toBits binary32 (common (f .ir) .«t_a»))
-      (answersLost (f .ir .mask) (shared (onward f)) (f .alpha) (infraredAt (reads (f .ir))) (countOf (length d) (length (f .ir .pixels)))))
-  pub destination : d′ ≡ unless (passVerdict f)
-      (answersInto (f .ir .mask) (shared (onward f)) (f .alpha) (infraredAt (reads (f .ir))) (countOf (length d) (length (f .ir .pixels))) d) d
+unfoldable pub passVerdict : PassCall → List ℕ → Verdict
+passVerdict f d = firstOf (onePassTests (f .ir .calibration) (f .ir .emissivity) (f .ir .ram) (f .range) (passLengths f d))
+
+abbrev pub Passes : PassCall → List ℕ → List ℕ → Frame → Type 0
+Passes f d d′ r =
+    Writes (passVerdict f d) (common (f .ir) .«t_a») (f .ir .mask) (countOf (passLengths f d))
+    (temperatureBits (finalAt (onward f) (infraredAt (f .ir))) (infraredAt (f .ir))) d d′ r

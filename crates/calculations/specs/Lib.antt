@@ -1,4 +1,4 @@
--- The three frame calls.
-pub mod Pixels
+-- The three frame calls. Inner is for inner functions only.
 pub mod Frames
 pub mod Demand
+pub mod Inner

@@ -1,32 +1,26 @@
--- Document 01's map, words 34 to 63: each field of the record over `w`, the data of a card's words by their numbers.
--- `signed` takes a width, `combined` an upper and a lower word, and `over` divides by a power of two. Assumes nothing.
+-- Document 01's map, words 34 to 63: the record over `w`, the data of a card's words by their numbers, field after field as the map has them.
+-- `wordOf` is the map's, `signed` takes a width, `combined` an upper and a lower word, and `over` divides by a power of two.
+-- Assumes nothing.
 use Prim.Native.Nat.{ℕ, _/_, _%_, _^_}
 use mathlib.Core.List.{[], _∷_}
-use lib.IntN.{ℤ, pos, negsuc, _*ℤ_}
+use lib.IntN.{ℤ, pos, _*ℤ_}
 use lib.ListN.{replicate}
 use lib.Ieee.{Float}
-use Rattle.floats.specs.Floats.{whole, over}
+use Rattle.floats.specs.Floats.{real, over}
 use Rattle.floats.specs.Constants.{plusZero}
-use Rattle.util.specs.Fields.{signed, combined}
-use Rattle.calibration.specs.declared.Basics.{Basics}
-use Rattle.calibration.specs.declared.Compensation.{Compensation}
-use Rattle.calibration.specs.declared.Ranges.{Ranges}
+use Rattle.util.specs.Fields.{minus, signed, combined}
+use Rattle.map.specs.declared.Field.{Field}
+use Rattle.map.specs.declared.Field.the-variants.{KSTa, Emissivity, Gain, VDd25, KVDd, VPtat25, KTPtat, KVPtat, AlphaPtat, AlphaCp, AlphaCpScale, OffsetCp, KTaCp, KVCp, Gradient, KSToScale, KSTo, Corner}
+use Rattle.map.specs.Map.{wordOf}
 use Rattle.calibration.specs.declared.Calibration.{Calibration}
 use Rattle.calibration.specs.declared.Gradient.the-variants.{Coefficient, Missing}
 
-unfoldable pub basicsOf : (ℕ → ℕ) → Basics
-basicsOf w = record {
-  «k_s_ta» = over (signed 11 (w 34)) 15;
-  emissivity = over (signed 11 (w 35)) 9;
-  gain = whole (pos (combined (w 36) (w 37)));
-  «v_dd_25» = signed 11 (w 38) *ℤ pos 32;
-  «k_v_dd» = signed 11 (w 39) *ℤ pos 32;
-  «v_ptat_25» = whole (pos (combined (w 40) (w 41)));
-  «k_t_ptat» = over (signed 11 (w 42)) 3;
-  «k_v_ptat» = over (signed 11 (w 43)) 12;
-  «alpha_ptat» = over (pos (w 44)) 7;
-  «alpha_cp» = over (pos (w 45)) (w 46);
-}
+-- the data of a field of one word, and of a field of two
+abbrev pub single : (ℕ → ℕ) → Field → ℕ
+single w field = w (wordOf field 0)
+
+abbrev pub double : (ℕ → ℕ) → Field → ℕ
+double w field = combined (w (wordOf field 0)) (w (wordOf field 1))
 
 -- low bits signed, over 2 to the power above them
 abbrev pub lowOver : ℕ → ℕ → Float
@@ -36,67 +30,52 @@ lowOver width n = over (signed width n) (n / 2 ^ width)
 abbrev pub resolutionOf : ℕ → ℕ
 resolutionOf n = n / 512 % 4
 
-unfoldable pub compensationOf : (ℕ → ℕ) → Compensation
-compensationOf w = record {
-  «offset_reference_cp» = signed 16 (combined (w 47) (w 48));
-  «k_ta_cp» = lowOver 6 (w 49);
-  «k_v_cp» = lowOver 6 (w 50);
-  resolution = resolutionOf (w 51);
-  «temperature_gradient_coefficient» = Coefficient (over (signed 9 (w 51)) 6);
-}
-
 -- each K_sTo is divided by 2 to the power in word 52
-unfoldable pub rangesOf : (ℕ → ℕ) → Ranges
-rangesOf w =
-    let kSTo : ℕ → Float = λ k. over (signed 11 (w k)) (w 52) in
-    record {
-      «corner_temperatures» = negsuc 39 ∷ negsuc 19 ∷ pos 0 ∷ pos 80 ∷ pos 120 ∷ pos (w 58) ∷ pos (w 60) ∷ pos (w 62) ∷ [];
-      «k_s_to» = kSTo 53 ∷ kSTo 54 ∷ kSTo 55 ∷ kSTo 56 ∷ kSTo 57 ∷ kSTo 59 ∷ kSTo 61 ∷ kSTo 63 ∷ [];
-    }
+abbrev pub kSTo : (ℕ → ℕ) → ℕ → Float
+kSTo w k = over (signed 11 (w (wordOf KSTo k))) (single w KSToScale)
 
--- the record, whole
-abbrev pub joined : Basics → Compensation → Ranges → Calibration
-joined b c r = record {
-  «k_v_dd» = b .«k_v_dd»;
-  «v_dd_25» = b .«v_dd_25»;
-  resolution = c .resolution;
-  «k_v_ptat» = b .«k_v_ptat»;
-  «k_t_ptat» = b .«k_t_ptat»;
-  «v_ptat_25» = b .«v_ptat_25»;
-  «alpha_ptat» = b .«alpha_ptat»;
-  gain = b .gain;
-  «k_s_ta» = b .«k_s_ta»;
-  «corner_temperatures» = r .«corner_temperatures»;
-  «k_s_to» = r .«k_s_to»;
-  emissivity = b .emissivity;
-  «alpha_cp» = b .«alpha_cp»;
-  «offset_reference_cp» = c .«offset_reference_cp»;
-  «k_v_cp» = c .«k_v_cp»;
-  «k_ta_cp» = c .«k_ta_cp»;
-  «temperature_gradient_coefficient» = c .«temperature_gradient_coefficient»;
-}
+abbrev pub corner : (ℕ → ℕ) → ℕ → ℤ
+corner w k = pos (w (wordOf Corner k))
 
 unfoldable pub calibrationOf : (ℕ → ℕ) → Calibration
-calibrationOf w = joined (basicsOf w) (compensationOf w) (rangesOf w)
+calibrationOf w = record {
+  «k_s_ta» = over (signed 11 (single w KSTa)) 15;
+  emissivity = over (signed 11 (single w Emissivity)) 9;
+  gain = real (pos (double w Gain));
+  «v_dd_25» = signed 11 (single w VDd25) *ℤ pos 32;
+  «k_v_dd» = signed 11 (single w KVDd) *ℤ pos 32;
+  «v_ptat_25» = real (pos (double w VPtat25));
+  «k_t_ptat» = over (signed 11 (single w KTPtat)) 3;
+  «k_v_ptat» = over (signed 11 (single w KVPtat)) 12;
+  «alpha_ptat» = over (pos (single w AlphaPtat)) 7;
+  «alpha_cp» = over (pos (single w AlphaCp)) (single w AlphaCpScale);
+  «offset_reference_cp» = signed 16 (double w OffsetCp);
+  «k_ta_cp» = lowOver 6 (single w KTaCp);
+  «k_v_cp» = lowOver 6 (single w KVCp);
+  resolution = resolutionOf (single w Gradient);
+  «temperature_gradient_coefficient» = Coefficient (over (signed 9 (single w Gradient)) 6);
+  «k_s_to» = kSTo w 0 ∷ kSTo w 1 ∷ kSTo w 2 ∷ kSTo w 3 ∷ kSTo w 4 ∷ kSTo w 5 ∷ kSTo w 6 ∷ kSTo w 7 ∷ [];
+  «corner_temperatures» = minus 40 ∷ minus 20 ∷ pos 0 ∷ pos 80 ∷ pos 120 ∷ corner w 0 ∷ corner w 1 ∷ corner w 2 ∷ [];
+}
 
 -- the record of a refusal: every number 0, and no gradient
 unfoldable pub noCalibration : Calibration
 noCalibration = record {
-  «k_v_dd» = pos 0;
-  «v_dd_25» = pos 0;
-  resolution = 0;
-  «k_v_ptat» = plusZero;
-  «k_t_ptat» = plusZero;
-  «v_ptat_25» = plusZero;
-  «alpha_ptat» = plusZero;
-  gain = plusZero;
   «k_s_ta» = plusZero;
-  «corner_temperatures» = replicate 8 (pos 0);
-  «k_s_to» = replicate 8 plusZero;
   emissivity = plusZero;
+  gain = plusZero;
+  «v_dd_25» = pos 0;
+  «k_v_dd» = pos 0;
+  «v_ptat_25» = plusZero;
+  «k_t_ptat» = plusZero;
+  «k_v_ptat» = plusZero;
+  «alpha_ptat» = plusZero;
   «alpha_cp» = plusZero;
   «offset_reference_cp» = pos 0;
-  «k_v_cp» = plusZero;
   «k_ta_cp» = plusZero;
+  «k_v_cp» = plusZero;
+  resolution = 0;
   «temperature_gradient_coefficient» = Missing;
+  «k_s_to» = replicate 8 plusZero;
+  «corner_temperatures» = replicate 8 (pos 0);
 }

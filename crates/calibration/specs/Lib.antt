@@ -1,2 +1,3 @@
--- The calibration record.
+-- The calibration record. Inner is for inner functions only.
 pub mod Calibration
+pub mod Inner

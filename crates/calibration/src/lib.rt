@@ -1,12 +1,16 @@
 // The calibration record: all single values and eight-entry arrays of a card, read off the data of its words.
 ghost use mathlib.Core.Path.{_≡_};
-ghost use Prim.Native.Nat.{ℕ, _<_, _≤_};
+ghost use Prim.Native.Nat.{ℕ, _+_, _<_, _≤_};
 ghost use lib.IntN.{pos};
 ghost use Rattle.floats.specs.Floats.{over};
 ghost use Rattle.util.specs.Fields.{signed};
-ghost use Rattle.card.specs.Cursor.{at};
-ghost use Rattle.calibration.specs.Calibration.{lowOver, resolutionOf, basicsOf, compensationOf, rangesOf, calibrationOf, noCalibration};
+ghost use Rattle.hamming.specs.Word.{dataValues};
+ghost use Rattle.map.specs.Map.{cardWords};
+ghost use Rattle.card.specs.Inner.{at};
+ghost use Rattle.calibration.specs.Calibration.{lowOver, resolutionOf, calibrationOf, noCalibration};
+ghost use Rattle.calibration.specs.Inner.{sensingOf, referencesOf, ptatOf, compensationOf, rangeAt, rangesOf};
 use card::Cursor;
+use map::Words;
 
 // The temperature gradient: a coefficient or none. This chip always gives one, even 0.
 pub enum Gradient {
@@ -34,14 +38,22 @@ pub struct Calibration {
     pub temperature_gradient_coefficient: Gradient,
 }
 
-// What words 34 to 46 hold.
-pub struct Basics {
+// What words 34 to 37 hold.
+pub struct Sensing {
     pub k_s_ta: f32,
     pub emissivity: f32,
     pub gain: f32,
+}
+
+// What words 38 to 41 hold.
+pub struct References {
     pub v_dd_25: i16,
     pub k_v_dd: i16,
     pub v_ptat_25: f32,
+}
+
+// What words 42 to 46 hold.
+pub struct Ptat {
     pub k_t_ptat: f32,
     pub k_v_ptat: f32,
     pub alpha_ptat: f32,
@@ -55,6 +67,13 @@ pub struct Compensation {
     pub k_v_cp: f32,
     pub resolution: u8,
     pub temperature_gradient_coefficient: Gradient,
+}
+
+// A corner temperature and the K_sTo from there on, with the cursor past them.
+pub struct Range {
+    pub corner: i16,
+    pub k_s_to: f32,
+    pub next: Cursor,
 }
 
 // What words 52 to 63 hold.
@@ -89,45 +108,52 @@ fn resolution_of(word: u16) -> u8
 
 // A corner temperature, of 11 bits.
 fn corner(value: u16) -> i16
-    requires { ⌜ value < 2048 ⌝ }
+    requires { ⌜ value < dataValues ⌝ }
     ensures { λ r. ⌜ r ≡ pos value ⌝ }
 {
     value as i16
 }
 
-// Words 34 to 46.
-fn read_basics(words: &[u16; 832]) -> Basics
-    ensures { λ r. ⌜ r ≡ basicsOf (at (now (words .entry))) ⌝ }
+// Words 34 to 37.
+fn read_sensing(words: &Words) -> Sensing
+    ensures { λ r. ⌜ r ≡ sensingOf (calibrationOf (at (now (words .entry)))) ⌝ }
 {
-    let start = Cursor { word: 34 };
-    let k_s_ta = start.scaled(words, 15);
-    let c1 = k_s_ta.next;
-    let emissivity = c1.scaled(words, 9);
-    let c2 = emissivity.next;
-    let gain = c2.real(words);
-    let c3 = gain.next;
-    let v_dd_25 = c3.times_32(words);
-    let c4 = v_dd_25.next;
-    let k_v_dd = c4.times_32(words);
-    let c5 = k_v_dd.next;
-    let v_ptat_25 = c5.real(words);
-    let c6 = v_ptat_25.next;
-    let k_t_ptat = c6.scaled(words, 3);
-    let c7 = k_t_ptat.next;
-    let k_v_ptat = c7.scaled(words, 12);
-    let c8 = k_v_ptat.next;
-    let alpha_ptat = c8.fraction(words, 7);
-    let c9 = alpha_ptat.next;
-    let alpha_cp = c9.plain(words);
-    let c10 = alpha_cp.next;
-    let alpha_cp_scale = c10.plain(words);
-    Basics {
+    let k_s_ta = Cursor { word: map::K_S_TA }.scaled(words, 15);
+    let emissivity = k_s_ta.next.scaled(words, 9);
+    let gain = emissivity.next.real(words);
+    Sensing {
         k_s_ta: k_s_ta.value,
         emissivity: emissivity.value,
         gain: gain.value,
+    }
+}
+
+// Words 38 to 41.
+fn read_references(words: &Words) -> References
+    ensures { λ r. ⌜ r ≡ referencesOf (calibrationOf (at (now (words .entry)))) ⌝ }
+{
+    let v_dd_25 = Cursor { word: map::V_DD_25 }.times_32(words);
+    let k_v_dd = v_dd_25.next.times_32(words);
+    let v_ptat_25 = k_v_dd.next.real(words);
+    References {
         v_dd_25: v_dd_25.value,
         k_v_dd: k_v_dd.value,
         v_ptat_25: v_ptat_25.value,
+    }
+}
+
+// Words 42 to 46.
+fn read_ptat(words: &Words) -> Ptat
+    ensures { λ r. ⌜ r ≡ ptatOf (calibrationOf (at (now (words .entry)))) ⌝ }
+{
+    let k_t_ptat = Cursor {
+        word: map::K_T_PTAT,
+    }.scaled(words, 3);
+    let k_v_ptat = k_t_ptat.next.scaled(words, 12);
+    let alpha_ptat = k_v_ptat.next.fraction(words, 7);
+    let alpha_cp = alpha_ptat.next.plain(words);
+    let alpha_cp_scale = alpha_cp.next.plain(words);
+    Ptat {
         k_t_ptat: k_t_ptat.value,
         k_v_ptat: k_v_ptat.value,
         alpha_ptat: alpha_ptat.value,
@@ -136,17 +162,15 @@ fn read_basics(words: &[u16; 832]) -> Basics
 }
 
 // Words 47 to 51.
-fn read_compensation(words: &[u16; 832]) -> Compensation
-    ensures { λ r. ⌜ r ≡ compensationOf (at (now (words .entry))) ⌝ }
+fn read_compensation(words: &Words) -> Compensation
+    ensures { λ r. ⌜ r ≡ compensationOf (calibrationOf (at (now (words .entry)))) ⌝ }
 {
-    let start = Cursor { word: 47 };
-    let offset = start.combined(words);
-    let c1 = offset.next;
-    let k_ta = c1.plain(words);
-    let c2 = k_ta.next;
-    let k_v = c2.plain(words);
-    let c3 = k_v.next;
-    let last = c3.plain(words);
+    let offset = Cursor {
+        word: map::OFFSET_CP,
+    }.combined(words);
+    let k_ta = offset.next.plain(words);
+    let k_v = k_ta.next.plain(words);
+    let last = k_v.next.plain(words);
     let gradient = signed_over(last.value, 9, 6);
     Compensation {
         offset_reference_cp: util::i16_from_bits(offset.value, 16),
@@ -157,55 +181,48 @@ fn read_compensation(words: &[u16; 832]) -> Compensation
     }
 }
 
-// Words 52 to 63.
-fn read_ranges(words: &[u16; 832]) -> Ranges
-    requires { ⌜ ((k : ℕ) → at (now words) k < 2048) ⌝ }
-    ensures { λ r. ⌜ r ≡ rangesOf (at (now (words .entry))) ⌝ }
+// A corner and its K_sTo, which is over 2^power.
+fn read_range(words: &Words, power: u16, start: Cursor) -> Range
+    requires { ⌜ (start .word + 1 < cardWords) × (at (now words) (start .word) < dataValues) ⌝ }
+    ensures { λ r. ⌜ r ≡ rangeAt (now (words .entry)) power (start .word) ⌝ }
 {
-    let start = Cursor { word: 52 };
-    let scale = start.plain(words);
+    let temperature = start.plain(words);
+    let k_s_to = temperature.next.scaled(words, power);
+    let next = k_s_to.next;
+    Range {
+        corner: corner(temperature.value),
+        k_s_to: k_s_to.value,
+        next,
+    }
+}
+
+// Words 52 to 63.
+fn read_ranges(words: &Words) -> Ranges
+    requires { ⌜ ((k : ℕ) → at (now words) k < dataValues) ⌝ }
+    ensures { λ r. ⌜ r ≡ rangesOf (calibrationOf (at (now (words .entry)))) ⌝ }
+{
+    let scale = Cursor {
+        word: map::K_S_TO_SCALE,
+    }.plain(words);
     let power = scale.value;
-    let c1 = scale.next;
-    let k0 = c1.scaled(words, power);
-    let c2 = k0.next;
-    let k1 = c2.scaled(words, power);
-    let c3 = k1.next;
-    let k2 = c3.scaled(words, power);
-    let c4 = k2.next;
-    let k3 = c4.scaled(words, power);
-    let c5 = k3.next;
-    let k4 = c5.scaled(words, power);
-    let c6 = k4.next;
-    let t5 = c6.plain(words);
-    let c7 = t5.next;
-    let k5 = c7.scaled(words, power);
-    let c8 = k5.next;
-    let t6 = c8.plain(words);
-    let c9 = t6.next;
-    let k6 = c9.scaled(words, power);
-    let c10 = k6.next;
-    let t7 = c10.plain(words);
-    let c11 = t7.next;
-    let k7 = c11.scaled(words, power);
-    let corner_temperatures = [
-        -40,
-        -20,
-        0,
-        80,
-        120,
-        corner(t5.value),
-        corner(t6.value),
-        corner(t7.value),
-    ];
+    let k0 = scale.next.scaled(words, power);
+    let k1 = k0.next.scaled(words, power);
+    let k2 = k1.next.scaled(words, power);
+    let k3 = k2.next.scaled(words, power);
+    let k4 = k3.next.scaled(words, power);
+    let r5 = read_range(words, power, k4.next);
+    let r6 = read_range(words, power, r5.next);
+    let r7 = read_range(words, power, r6.next);
+    let corner_temperatures = [-40, -20, 0, 80, 120, r5.corner, r6.corner, r7.corner];
     let k_s_to = [
         k0.value,
         k1.value,
         k2.value,
         k3.value,
         k4.value,
-        k5.value,
-        k6.value,
-        k7.value,
+        r5.k_s_to,
+        r6.k_s_to,
+        r7.k_s_to,
     ];
     Ranges {
         corner_temperatures,
@@ -214,30 +231,32 @@ fn read_ranges(words: &[u16; 832]) -> Ranges
 }
 
 // The record of a card, by the data of its words.
-pub fn read_calibration(words: &[u16; 832]) -> Calibration
-    requires { ⌜ ((k : ℕ) → at (now words) k < 2048) ⌝ }
+pub fn read_calibration(words: &Words) -> Calibration
+    requires { ⌜ ((k : ℕ) → at (now words) k < dataValues) ⌝ }
     ensures { λ r. ⌜ r ≡ calibrationOf (at (now (words .entry))) ⌝ }
 {
-    let basics = read_basics(words);
+    let sensing = read_sensing(words);
+    let references = read_references(words);
+    let ptat = read_ptat(words);
     let compensation = read_compensation(words);
     let ranges = read_ranges(words);
     let corner_temperatures = ranges.corner_temperatures;
     let k_s_to = ranges.k_s_to;
     let gradient = compensation.temperature_gradient_coefficient;
     Calibration {
-        k_v_dd: basics.k_v_dd,
-        v_dd_25: basics.v_dd_25,
+        k_v_dd: references.k_v_dd,
+        v_dd_25: references.v_dd_25,
         resolution: compensation.resolution,
-        k_v_ptat: basics.k_v_ptat,
-        k_t_ptat: basics.k_t_ptat,
-        v_ptat_25: basics.v_ptat_25,
-        alpha_ptat: basics.alpha_ptat,
-        gain: basics.gain,
-        k_s_ta: basics.k_s_ta,
+        k_v_ptat: ptat.k_v_ptat,
+        k_t_ptat: ptat.k_t_ptat,
+        v_ptat_25: references.v_ptat_25,
+        alpha_ptat: ptat.alpha_ptat,
+        gain: sensing.gain,
+        k_s_ta: sensing.k_s_ta,
         corner_temperatures,
         k_s_to,
-        emissivity: basics.emissivity,
-        alpha_cp: basics.alpha_cp,
+        emissivity: sensing.emissivity,
+        alpha_cp: ptat.alpha_cp,
         offset_reference_cp: compensation.offset_reference_cp,
         k_v_cp: compensation.k_v_cp,
         k_ta_cp: compensation.k_ta_cp,

@@ -2,8 +2,7 @@
 use Prim.Native.Nat.{ℕ}
 use mathlib.Core.Path.{_≡_, ap, sym, _∙_}
 use mathlib.Core.List.{List}
-use lib.IntN.{ℤ}
-use lib.Ieee.{Float}
+use Rattle.eeprom.specs.Load.{Tables}
 use Rattle.eeprom.proofs.Single.{single}
 use Rattle.calculations.specs.declared.Frame.{Frame}
 use Rattle.calculations.specs.Frames.{IrCall, ToCall, PassCall, Infrareds, Temperatures, Passes}
@@ -12,12 +11,10 @@ use Rattle.capi.specs.declared.Answer.{Answer}
 use Rattle.capi.specs.declared.Load.{Load}
 use Rattle.capi.specs.Border.{loadedOut, frameOut, Loading, Carried}
 
-pub single-loading : {image : List ℕ} {o0 o1 : List ℤ} {a v t : List Float} {x0 x1 y0 y1 : List ℤ} {xa xv xt ya yv yt : List Float} {r q : Load}
-    → Loading image o0 o1 a v t x0 x1 xa xv xt r → Loading image o0 o1 a v t y0 y1 ya yv yt q
-    → (r ≡ q) × (x0 ≡ y0) × (x1 ≡ y1) × (xa ≡ ya) × (xv ≡ yv) × (xt ≡ yt)
+pub single-loading : {image : List ℕ} {before x y : Tables} {r q : Load} → Loading image before x r → Loading image before y q → (r ≡ q) × (x ≡ y)
 single-loading p s =
     let e = single (p .loads) (s .loads) in
-    (p .out ∙ ap loadedOut (e .0) ∙ sym (s .out), e .1, e .2, e .3, e .4, e .5)
+    (p .out ∙ ap loadedOut (e .0) ∙ sym (s .out), e .1)
 
 -- where any two answers of an inner call are one, so are C's
 carried : (P Q : Frame → Type 0) {r q : Answer} → ((a b : Frame) → P a → Q b → a ≡ b) → Carried P r → Carried Q q → r ≡ q

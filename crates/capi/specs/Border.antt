@@ -10,7 +10,8 @@ use lib.Ieee.{Float}
 use Rattle.floats.specs.Constants.{plusZero}
 use Rattle.lists.specs.Pick.{pick}
 use Rattle.refusal.specs.declared.Refusal.{Refusal}
-use Rattle.refusal.specs.Refusal.{numberOf, placeOf, valueOf, verdictNumber, verdictPlace, verdictValue}
+use Rattle.refusal.specs.Refusal.{toldOf, verdictTold}
+use Rattle.map.specs.Map.{imageBytes}
 use Rattle.hamming.specs.declared.Encoded.{Encoded}
 use Rattle.hamming.specs.declared.Encoded.the-variants as Encoded
 use Rattle.hamming.specs.declared.Checked.{Checked}
@@ -21,7 +22,7 @@ use Rattle.calibration.specs.declared.Gradient.the-variants.{Coefficient, Missi
 use Rattle.eeprom.specs.declared.Loaded.{Loaded}
 use Rattle.eeprom.specs.declared.Subpage.{Subpage}
 use Rattle.eeprom.specs.declared.Subpage.the-variants.{Zero, One}
-use Rattle.eeprom.specs.Load.{Loads}
+use Rattle.eeprom.specs.Load.{Tables, Loads}
 use Rattle.formulas.specs.declared.RamData.{RamData}
 use Rattle.formulas.specs.declared.Reflected.{Reflected}
 use Rattle.formulas.specs.declared.Reflected.the-variants.{Given, Ambient}
@@ -37,7 +38,7 @@ use Rattle.capi.specs.declared.Load.{Load}
 use Rattle.capi.specs.declared.Flagged.{Flagged}
 
 abbrev pub refusedWord : Refusal → Word
-refusedWord r = record { number = numberOf r; place = placeOf r; value = valueOf r; word = 0 }
+refusedWord r = record { number = toldOf r .number; place = toldOf r .place; value = toldOf r .value; word = 0 }
 
 abbrev pub encodedOut : Encoded → Word
 encodedOut (Encoded.Word w) = record { number = 0; place = 0; value = 0; word = w }
@@ -76,16 +77,16 @@ recordOut c = record {
 
 abbrev pub loadedOut : Loaded → Load
 loadedOut l = record {
-  number = verdictNumber (l .verdict);
-  place = verdictPlace (l .verdict);
-  value = verdictValue (l .verdict);
+  number = verdictTold (l .verdict) .number;
+  place = verdictTold (l .verdict) .place;
+  value = verdictTold (l .verdict) .value;
   calibration = recordOut (l .calibration);
 }
 
 -- what the inner load says of the image, the tables before and after, and an answer; and C has that answer
-pub record Loading (image : List ℕ) (o0 o1 : List ℤ) (a v t : List Float) (o0′ o1′ : List ℤ) (a′ v′ t′ : List Float) (r : Load) : Type 0 where
+pub record Loading (image : List ℕ) (before after : Tables) (r : Load) : Type 0 where
   pub inner : Loaded
-  pub loads : Loads image o0 o1 a v t o0′ o1′ a′ v′ t′ inner
+  pub loads : Loads image before after inner
   pub out : r ≡ loadedOut inner
 
 abbrev pub subpageOf : ℕ → Subpage
@@ -95,7 +96,7 @@ subpageOf n = pick (eqb n 0) Zero One
 unfoldable pub rowPlace : List ℕ → ℕ → Part
 rowPlace image row =
     pick (ltb 5 row) (record { start = 0; length = 0 })
-    (pick (ltb (length image) 1664) (record { start = 0; length = 0 }) (record { start = 512 + row * 64; length = 64 }))
+    (pick (ltb (length image) imageBytes) (record { start = 0; length = 0 }) (record { start = 512 + row * 64; length = 64 }))
 
 -- the offsets are the first entries of their table
 abbrev pub offsetsPlace : List ℤ → Part
@@ -148,7 +149,7 @@ reflectedIn given x = pick (eqb given 0) (Ambient x) (Given x)
 
 abbrev pub frameOut : Frame → Answer
 frameOut (Done tA n) = record { number = 0; place = 0; value = 0; lost = n; «t_a» = tA }
-frameOut (Refused r) = record { number = numberOf r; place = placeOf r; value = valueOf r; lost = 0; «t_a» = 0 }
+frameOut (Refused r) = record { number = toldOf r .number; place = toldOf r .place; value = toldOf r .value; lost = 0; «t_a» = 0 }
 
 -- an inner call keeps its promise with some answer, and C has that answer
 pub record Carried (promise : Frame → Type 0) (r : Answer) : Type 0 where

@@ -6,7 +6,8 @@ ghost use Rattle.root.specs.Root.{root};
 ghost use Rattle.hamming.specs.Answer.{encodeAnswer, checkAnswer};
 ghost use Rattle.eeprom.specs.Parts.{rowOf, offsetsOf};
 ghost use Rattle.capi.specs.Border.{refusedWord, encodedOut, checkedOut, subpageOf, gradientOut, recordOut, rowPlace, offsetsPlace, Loading, gradientIn, recordIn, ramIn, supplyIn, reflectedIn, frameOut, Carried};
-ghost use Rattle.calculations.specs.Frames.{irCall, toCall, passCall, Infrareds, Temperatures, Passes};
+ghost use Rattle.eeprom.specs.Load.{tables};
+ghost use Rattle.calculations.specs.Frames.{irCall, toCall, passCall, ownReading, Infrareds, Temperatures, Passes};
 use calculations::Frame;
 use calibration::Calibration;
 use calibration::Gradient;
@@ -16,6 +17,7 @@ use formulas::Reflected;
 use formulas::Supply;
 use hamming::Checked;
 use hamming::Encoded;
+use offsets::Offset;
 use refusal::Refusal;
 
 // A chip word's answer: number, place and value of the refusal, all 0 for none; and the word or its data, 0 after a refusal.
@@ -105,10 +107,11 @@ pub extern "C" fn loamchalice_root(x: f32) -> u32
 fn refused_word(refusal: Refusal) -> Word
     ensures { λ r. ⌜ r ≡ refusedWord refusal ⌝ }
 {
+    let told = refusal.told();
     Word {
-        number: refusal.number(),
-        place: refusal.place(),
-        value: refusal.value(),
+        number: told.number,
+        place: told.place,
+        value: told.value,
         word: 0,
     }
 }
@@ -196,23 +199,24 @@ fn record_out(calibration: Calibration) -> Record
 #[no_mangle]
 pub extern "C" fn loamchalice_load(
     image: &[u8],
-    offsets0: &mut [i16],
-    offsets1: &mut [i16],
+    offsets0: &mut [Offset],
+    offsets1: &mut [Offset],
     alpha: &mut [f32],
     k_v: &mut [f32],
     k_ta: &mut [f32],
 ) -> Load
-    ensures { λ r. ⌜ Loading (now (image .entry)) (now (offsets0 .entry)) (now (offsets1 .entry)) (now (alpha .entry)) (now («k_v» .entry)) (now («k_ta» .entry))
-        (now (offsets0 .exit)) (now (offsets1 .exit)) (now (alpha .exit)) (now («k_v» .exit)) (now («k_ta» .exit)) r ⌝ }
+    ensures { λ r. ⌜ Loading (now (image .entry)) (tables (now (offsets0 .entry)) (now (offsets1 .entry)) (now (alpha .entry)) (now («k_v» .entry)) (now («k_ta» .entry)))
+        (tables (now (offsets0 .exit)) (now (offsets1 .exit)) (now (alpha .exit)) (now («k_v» .exit)) (now («k_ta» .exit))) r ⌝ }
 {
     let loaded = eeprom::load(image, offsets0, offsets1, alpha, k_v, k_ta);
     let verdict = loaded.verdict;
     let inner = loaded.calibration;
+    let told = verdict.told();
     let calibration = record_out(inner);
     Load {
-        number: verdict.number(),
-        place: verdict.place(),
-        value: verdict.value(),
+        number: told.number,
+        place: told.place,
+        value: told.value,
         calibration,
     }
 }
@@ -251,8 +255,8 @@ fn subpage_of(subpage: u8) -> Subpage
 // Where a subpage's offsets stand in its own table: its first 192 entries, or none if it is shorter.
 #[no_mangle]
 pub extern "C" fn loamchalice_subpage_offsets<'a>(
-    zero: &'a [i16],
-    one: &'a [i16],
+    zero: &'a [Offset],
+    one: &'a [Offset],
     subpage: u8,
 ) -> Part
     ensures { λ r. ⌜ r ≡ offsetsPlace (offsetsOf (now (zero .entry)) (now (one .entry)) (subpageOf subpage)) ⌝ }
@@ -339,13 +343,16 @@ fn frame_out(frame: Frame) -> Answer
             lost,
             t_a,
         },
-        Frame::Refused(refusal) => Answer {
-            number: refusal.number(),
-            place: refusal.place(),
-            value: refusal.value(),
-            lost: 0,
-            t_a: 0,
-        },
+        Frame::Refused(refusal) => {
+            let told = refusal.told();
+            Answer {
+                number: told.number,
+                place: told.place,
+                value: told.value,
+                lost: 0,
+                t_a: 0,
+            }
+        }
     }
 }
 
@@ -358,15 +365,15 @@ pub extern "C" fn loamchalice_raw_pixels_to_ir_data<'a>(
     v_dd_0: f32,
     ram: Ram,
     subpage: u8,
-    offsets0: &'a [i16],
-    offsets1: &'a [i16],
+    offsets0: &'a [Offset],
+    offsets1: &'a [Offset],
     k_v: &[f32],
     k_ta: &[f32],
     pixels: &[u8],
     mask: &[u8],
     destination: &mut [u32],
 ) -> Answer
-    ensures { λ r. ⌜ Carried (Infrareds (irCall (recordIn calibration) emissivity (supplyIn «resolution_correction» «v_dd_0») (ramIn ram) (subpageOf subpage) (now (offsets0 .entry)) (now (offsets1 .entry)) (now («k_v» .entry)) (now («k_ta» .entry)) (now (pixels .entry)) (now (mask .entry)))
+    ensures { λ r. ⌜ Carried (Infrareds (irCall (recordIn calibration) emissivity (supplyIn «resolution_correction» «v_dd_0») (ramIn ram) (ownReading (ramIn ram)) (subpageOf subpage) (now (offsets0 .entry)) (now (offsets1 .entry)) (now («k_v» .entry)) (now («k_ta» .entry)) (now (pixels .entry)) (now (mask .entry)))
         (now (destination .entry)) (now (destination .exit))) r ⌝ }
 {
     let inner = record_in(calibration);
@@ -436,8 +443,8 @@ pub extern "C" fn loamchalice_raw_pixels_to_temperatures<'a>(
     basic_range: usize,
     reflected_given: u8,
     reflected: f32,
-    offsets0: &'a [i16],
-    offsets1: &'a [i16],
+    offsets0: &'a [Offset],
+    offsets1: &'a [Offset],
     alpha: &[f32],
     k_v: &[f32],
     k_ta: &[f32],
@@ -445,7 +452,7 @@ pub extern "C" fn loamchalice_raw_pixels_to_temperatures<'a>(
     mask: &[u8],
     destination: &mut [u32],
 ) -> Answer
-    ensures { λ r. ⌜ Carried (Passes (passCall (irCall (recordIn calibration) emissivity (supplyIn «resolution_correction» «v_dd_0») (ramIn ram) (subpageOf subpage) (now (offsets0 .entry)) (now (offsets1 .entry)) (now («k_v» .entry)) (now («k_ta» .entry)) (now (pixels .entry)) (now (mask .entry))) «basic_range» (reflectedIn «reflected_given» reflected) (now (alpha .entry)))
+    ensures { λ r. ⌜ Carried (Passes (passCall (irCall (recordIn calibration) emissivity (supplyIn «resolution_correction» «v_dd_0») (ramIn ram) (ownReading (ramIn ram)) (subpageOf subpage) (now (offsets0 .entry)) (now (offsets1 .entry)) (now («k_v» .entry)) (now («k_ta» .entry)) (now (pixels .entry)) (now (mask .entry))) «basic_range» (reflectedIn «reflected_given» reflected) (now (alpha .entry)))
         (now (destination .entry)) (now (destination .exit))) r ⌝ }
 {
     let inner = record_in(calibration);

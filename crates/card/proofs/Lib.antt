@@ -1,3 +1,3 @@
 -- The laws that callers cite.
-pub mod Said
+pub mod Data
 pub mod Times

@@ -1,3 +1,3 @@
--- The words of a card, and the cursor over their data.
+-- The words of a card. Inner is for inner functions only.
 pub mod Card
-pub mod Cursor
+pub mod Inner

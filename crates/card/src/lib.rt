@@ -5,13 +5,16 @@ ghost use lib.ListN.{length};
 ghost use Rattle.lists.specs.Written.{filled};
 ghost use Rattle.hamming.specs.Answer.{answerOf};
 ghost use lib.IntN.{pos};
-ghost use Rattle.floats.specs.Floats.{whole, over};
+ghost use Rattle.floats.specs.Floats.{real, over};
 ghost use Rattle.util.specs.Words.{wordAt};
 ghost use Rattle.util.specs.Fields.{combined};
+ghost use Rattle.map.specs.Map.{cardWords, imageBytes};
 ghost use Rattle.card.specs.Card.{readAt, dataAt, firstDamaged};
-ghost use Rattle.card.specs.Cursor.{plainAt, signedAt, combinedAt, partsAt, scaledAt, times32At, fractionAt, realAt};
+ghost use Rattle.card.specs.Inner.{plainAt, signedAt, combinedAt, splitAt, scaledAt, times32At, fractionAt, realAt};
 use hamming::Checked;
-use util::Parts;
+use map::WORDS;
+use map::Words;
+use util::Pair;
 
 // What word number `word` of an image says. An unchecked word says 0.
 fn read_word(image: &[u8], word: usize) -> Checked
@@ -26,15 +29,15 @@ fn read_word(image: &[u8], word: usize) -> Checked
 }
 
 // The first damaged word in reading order, or 832. The data of all words before it are in `words`.
-pub fn decode(image: &[u8], words: &mut [u16; 832]) -> usize
-    requires { ⌜ 1664 ≤ length (now image) ⌝ }
+pub fn decode(image: &[u8], words: &mut Words) -> usize
+    requires { ⌜ imageBytes ≤ length (now image) ⌝ }
     ensures { λ r. ⌜ r ≡ firstDamaged (now (image .entry)) ⌝ }
     ensures { λ r. ⌜ now (words .exit) ≡ filled (dataAt (now (image .entry))) r (now (words .entry)) ⌝ }
 {
     let mut word: usize = 0;
     let place = loop {
-        if word == 832 {
-            break 832;
+        if word == WORDS {
+            break WORDS;
         }
         let read = read_word(image, word);
         let Checked::Data(data) = read else {
@@ -55,7 +58,7 @@ pub fn fraction_of(value: u16, power: u16) -> f32
 
 // Two words combined, as a number.
 fn combined_real(upper: u16, lower: u16) -> f32
-    ensures { λ r. ⌜ r ≡ whole (pos (combined upper lower)) ⌝ }
+    ensures { λ r. ⌜ r ≡ real (pos (combined upper lower)) ⌝ }
 {
     util::combine(upper, lower) as f32
 }
@@ -81,8 +84,8 @@ pub struct Combined {
     pub next: Cursor,
 }
 
-pub struct Parted {
-    pub value: Parts,
+pub struct Split {
+    pub value: Pair,
     pub next: Cursor,
 }
 
@@ -93,8 +96,8 @@ pub struct Scaled {
 
 impl Cursor {
     // A word's data, unsigned.
-    pub fn plain(self, words: &[u16; 832]) -> Plain
-        requires { ⌜ self .word < 832 ⌝ }
+    pub fn plain(self, words: &Words) -> Plain
+        requires { ⌜ self .word < cardWords ⌝ }
         ensures { λ r. ⌜ r ≡ plainAt (now (words .entry)) (self .word) ⌝ }
     {
         let word = self.word;
@@ -105,8 +108,8 @@ impl Cursor {
     }
 
     // A word's data, 11 bits signed.
-    pub fn signed(self, words: &[u16; 832]) -> Signed
-        requires { ⌜ self .word < 832 ⌝ }
+    pub fn signed(self, words: &Words) -> Signed
+        requires { ⌜ self .word < cardWords ⌝ }
         ensures { λ r. ⌜ r ≡ signedAt (now (words .entry)) (self .word) ⌝ }
     {
         let word = self.word;
@@ -117,8 +120,8 @@ impl Cursor {
     }
 
     // A word's data, 11 bits signed, times 32.
-    pub fn times_32(self, words: &[u16; 832]) -> Signed
-        requires { ⌜ self .word < 832 ⌝ }
+    pub fn times_32(self, words: &Words) -> Signed
+        requires { ⌜ self .word < cardWords ⌝ }
         ensures { λ r. ⌜ r ≡ times32At (now (words .entry)) (self .word) ⌝ }
     {
         let field = self.signed(words);
@@ -131,36 +134,34 @@ impl Cursor {
     }
 
     // A word's data, unsigned, over 2^power.
-    pub fn fraction(self, words: &[u16; 832], power: u16) -> Scaled
-        requires { ⌜ self .word < 832 ⌝ }
+    pub fn fraction(self, words: &Words, power: u16) -> Scaled
+        requires { ⌜ self .word < cardWords ⌝ }
         ensures { λ r. ⌜ r ≡ fractionAt (now (words .entry)) power (self .word) ⌝ }
     {
         let field = self.plain(words);
-        let value = field.value;
         let next = field.next;
         Scaled {
-            value: fraction_of(value, power),
+            value: fraction_of(field.value, power),
             next,
         }
     }
 
     // A word's data, 11 bits signed, over 2^power.
-    pub fn scaled(self, words: &[u16; 832], power: u16) -> Scaled
-        requires { ⌜ self .word < 832 ⌝ }
+    pub fn scaled(self, words: &Words, power: u16) -> Scaled
+        requires { ⌜ self .word < cardWords ⌝ }
         ensures { λ r. ⌜ r ≡ scaledAt (now (words .entry)) power (self .word) ⌝ }
     {
         let field = self.signed(words);
-        let value = field.value;
         let next = field.next;
         Scaled {
-            value: value as f32 / floats::exp2(power),
+            value: field.value as f32 / floats::exp2(power),
             next,
         }
     }
 
     // Two words, combined.
-    pub fn combined(self, words: &[u16; 832]) -> Combined
-        requires { ⌜ self .word < 831 ⌝ }
+    pub fn combined(self, words: &Words) -> Combined
+        requires { ⌜ self .word + 1 < cardWords ⌝ }
         ensures { λ r. ⌜ r ≡ combinedAt (now (words .entry)) (self .word) ⌝ }
     {
         let upper = self.word;
@@ -172,8 +173,8 @@ impl Cursor {
     }
 
     // Two words, combined, as a number.
-    pub fn real(self, words: &[u16; 832]) -> Scaled
-        requires { ⌜ self .word < 831 ⌝ }
+    pub fn real(self, words: &Words) -> Scaled
+        requires { ⌜ self .word + 1 < cardWords ⌝ }
         ensures { λ r. ⌜ r ≡ realAt (now (words .entry)) (self .word) ⌝ }
     {
         let upper = self.word;
@@ -184,13 +185,13 @@ impl Cursor {
         }
     }
 
-    // A word in two parts, the lower of `low_bits` bits.
-    pub fn parts(self, words: &[u16; 832], low_bits: u32) -> Parted
-        requires { ⌜ (self .word < 832) × («low_bits» < 16) ⌝ }
-        ensures { λ r. ⌜ r ≡ partsAt (now (words .entry)) «low_bits» (self .word) ⌝ }
+    // A word as two numbers, the lower of `low_bits` bits.
+    pub fn split(self, words: &Words, low_bits: u32) -> Split
+        requires { ⌜ (self .word < cardWords) × («low_bits» < 16) ⌝ }
+        ensures { λ r. ⌜ r ≡ splitAt (now (words .entry)) «low_bits» (self .word) ⌝ }
     {
         let word = self.word;
-        Parted {
+        Split {
             value: util::split(words[word], low_bits),
             next: Cursor { word: word + 1 },
         }

@@ -1,4 +1,4 @@
--- Opened and Words lead to the code; Single is the law of the single answer.
-pub mod Opened
-pub mod Words
+-- Opened leads to the code; Parts and Single are the laws that callers cite.
+mod Opened
+pub mod Parts
 pub mod Single

@@ -1,3 +1,4 @@
--- Loading a card, and the readers of parts.
+-- Loading a card, and the readers of parts. Inner is for inner functions only.
 pub mod Load
 pub mod Parts
+pub mod Inner

@@ -1,67 +1,74 @@
 -- Document 01: what stops a load, lowest number first, and what a load leaves. Assumes nothing.
 use Prim.Native.Nat.{ℕ, min, _+_, _*_}
 use mathlib.Core.Path.{_≡_}
-use mathlib.Core.List.{List}
+use mathlib.Core.List.{List, [], _∷_}
 use lib.Dec.{leb, ltb}
 use lib.IntN.{ℤ}
 use lib.ListN.{length}
 use lib.Ieee.{Float}
-use Rattle.lists.specs.Pick.{pick}
 use Rattle.lists.specs.Written.{filled}
-use Rattle.refusal.specs.declared.Refusal.the-variants.{ShortImage, ShortTable, DamagedWord, OffsetScale, OffsetRange}
+use Rattle.refusal.specs.declared.Refusal.the-variants.{ShortImage, ShortTable, DamagedWord, LargeScale, OffsetRange}
 use Rattle.refusal.specs.declared.Verdict.{Verdict}
-use Rattle.refusal.specs.declared.Verdict.the-variants.{Pass, Refused}
 use Rattle.refusal.specs.Refusal.{unless}
+use Rattle.refusal.specs.Order.{Test, _refuses_, firstOf}
 use Rattle.util.specs.Words.{wordAt}
+use Rattle.map.specs.Map.{cardWords, imageBytes, framePixels}
 use Rattle.card.specs.Card.{dataAt, firstDamaged}
-use Rattle.offsets.specs.Offsets.{offsetScale, firstOutside, offsetAt}
-use Rattle.tables.specs.declared.Coefficient.the-variants.{KTa, KV}
+use Rattle.offsets.specs.Offsets.{entries, offsetScale, firstOutside, offsetAt}
+use Rattle.tables.specs.declared.K.the-variants.{KTa, KV}
 use Rattle.tables.specs.Tables.{alphaAt, kAt}
 use Rattle.calibration.specs.Calibration.{calibrationOf, noCalibration}
 use Rattle.eeprom.specs.declared.Loaded.{Loaded}
 
--- 4, then 5, over the data of the words
-unfoldable pub offsetsVerdict : (ℕ → ℕ) → Verdict
-offsetsVerdict w =
-    pick (leb 15 (offsetScale w)) (Refused (OffsetScale (offsetScale w)))
-    (pick (ltb (firstOutside w) 384) (Refused (OffsetRange (firstOutside w)))
-    Pass)
+-- ---- the five tables
 
--- 1, 2, 3, and then those, over the image and the length of the shortest table
-unfoldable pub loadVerdict : List ℕ → ℕ → Verdict
-loadVerdict image shortest =
-    pick (ltb (length image) 1664) (Refused (ShortImage (length image)))
-    (pick (ltb shortest 192) (Refused ShortTable)
-    (pick (ltb (firstDamaged image) 832) (Refused (DamagedWord (firstDamaged image) (wordAt image (firstDamaged image))))
-    (offsetsVerdict (dataAt image))))
+pub record Tables : Type 0 where
+  pub offsets0 : List ℤ
+  pub offsets1 : List ℤ
+  pub alpha : List Float
+  pub kV : List Float
+  pub kTa : List Float
 
--- the first 192 entries of each table over the data of the words; the others stay
-abbrev pub newOffsets : (ℕ → ℕ) → ℕ → List ℤ → List ℤ
-newOffsets w subpage t = filled (λ (k : ℕ). offsetAt w (192 * subpage + k)) 192 t
+abbrev pub tables : List ℤ → List ℤ → List Float → List Float → List Float → Tables
+tables o0 o1 a v t = record { offsets0 = o0; offsets1 = o1; alpha = a; kV = v; kTa = t }
 
-abbrev pub newAlpha : (ℕ → ℕ) → List Float → List Float
-newAlpha w t = filled (alphaAt w) 192 t
+-- the length of the shortest
+abbrev pub shortest : Tables → ℕ
+shortest t = min (min (length (t .offsets0)) (length (t .offsets1))) (min (length (t .alpha)) (min (length (t .kV)) (length (t .kTa))))
 
-abbrev pub newKV : (ℕ → ℕ) → List Float → List Float
-newKV w t = filled (kAt w KV) 192 t
+-- filled from the data of the words: the first 192 entries of each; the others stay
+abbrev pub filledOffsets : (ℕ → ℕ) → ℕ → List ℤ → List ℤ
+filledOffsets w subpage t = filled (λ (k : ℕ). offsetAt w (framePixels * subpage + k)) framePixels t
 
-abbrev pub newKTa : (ℕ → ℕ) → List Float → List Float
-newKTa w t = filled (kAt w KTa) 192 t
+unfoldable pub filledTables : (ℕ → ℕ) → Tables → Tables
+filledTables w t =
+    tables (filledOffsets w 0 (t .offsets0)) (filledOffsets w 1 (t .offsets1))
+    (filled (alphaAt w) framePixels (t .alpha)) (filled (kAt w KV) framePixels (t .kV)) (filled (kAt w KTa) framePixels (t .kTa))
 
--- five tables before (offsets of both subpages, alpha, K_V, K_Ta) and after they are filled
-pub record Filled (w : ℕ → ℕ) (o0 o1 : List ℤ) (a v t : List Float) (o0′ o1′ : List ℤ) (a′ v′ t′ : List Float) : Type 0 where
-  pub offsets0 : o0′ ≡ newOffsets w 0 o0
-  pub offsets1 : o1′ ≡ newOffsets w 1 o1
-  pub alpha : a′ ≡ newAlpha w a
-  pub k-v : v′ ≡ newKV w v
-  pub k-ta : t′ ≡ newKTa w t
+-- ---- the tests, in order
 
--- what a load says of its image, the five tables before and after, and its answer
-pub record Loads (image : List ℕ) (o0 o1 : List ℤ) (a v t : List Float) (o0′ o1′ : List ℤ) (a′ v′ t′ : List Float) (r : Loaded) : Type 0 where
-  pub verdict : r .verdict ≡ loadVerdict image (min (min (length o0) (length o1)) (min (length a) (min (length v) (length t))))
+-- of the data of the words
+unfoldable pub dataTests : (ℕ → ℕ) → List Test
+dataTests w =
+    leb 15 (offsetScale w) refuses LargeScale (offsetScale w)
+    ∷ ltb (firstOutside w) entries refuses OffsetRange (firstOutside w)
+    ∷ []
+
+-- of an image and the length of the shortest table
+unfoldable pub loadTests : List ℕ → ℕ → List Test
+loadTests image table =
+    ltb (length image) imageBytes refuses ShortImage (length image)
+    ∷ ltb table framePixels refuses ShortTable
+    ∷ ltb (firstDamaged image) cardWords refuses DamagedWord (firstDamaged image) (wordAt image (firstDamaged image))
+    ∷ dataTests (dataAt image)
+
+abbrev pub loadVerdict : List ℕ → Tables → Verdict
+loadVerdict image t = firstOf (loadTests image (shortest t))
+
+-- ---- the promise
+
+-- what a load says of its image, the tables before and after, and its answer
+pub record Loads (image : List ℕ) (before after : Tables) (r : Loaded) : Type 0 where
+  pub verdict : r .verdict ≡ loadVerdict image before
   pub calibration : r .calibration ≡ unless (r .verdict) (calibrationOf (dataAt image)) noCalibration
-  pub offsets0 : o0′ ≡ unless (r .verdict) (newOffsets (dataAt image) 0 o0) o0
-  pub offsets1 : o1′ ≡ unless (r .verdict) (newOffsets (dataAt image) 1 o1) o1
-  pub alpha : a′ ≡ unless (r .verdict) (newAlpha (dataAt image) a) a
-  pub k-v : v′ ≡ unless (r .verdict) (newKV (dataAt image) v) v
-  pub k-ta : t′ ≡ unless (r .verdict) (newKTa (dataAt image) t) t
+  pub lent : after ≡ unless (r .verdict) (filledTables (dataAt image) before) before

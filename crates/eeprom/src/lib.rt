@@ -1,20 +1,27 @@
 // A card's image to a calibration record and five tables, or a refusal that changes nothing; and two readers of parts.
 ghost use mathlib.Core.Path.{_≡_};
-ghost use mathlib.Core.Bool.{false};
-ghost use Prim.Native.Nat.{ℕ, _+_, _*_, _<_, _≤_};
+ghost use Prim.Native.Nat.{min};
 ghost use lib.ListN.{length};
 ghost use Rattle.lists.specs.Written.{filled};
 ghost use Rattle.refusal.specs.declared.Verdict.the-variants.{Pass};
+ghost use Rattle.refusal.specs.Order.{firstOf};
+ghost use Rattle.map.specs.Map.{cardWords};
 ghost use Rattle.card.specs.Card.{dataAt};
-ghost use Rattle.card.specs.Cursor.{at};
-ghost use Rattle.offsets.specs.Offsets.{scaleOf, outsideAt};
-ghost use Rattle.eeprom.specs.Load.{offsetsVerdict, loadVerdict, Filled, Loads};
+ghost use Rattle.card.specs.Inner.{at};
+ghost use Rattle.calibration.specs.Calibration.{calibrationOf};
+ghost use Rattle.eeprom.specs.Load.{tables, filledTables, dataTests, loadTests, Loads};
+ghost use Rattle.eeprom.specs.Inner.{Passed};
 ghost use Rattle.eeprom.specs.Parts.{rowOf, first192, offsetsOf};
 use calibration::Calibration;
+use map::IMAGE_BYTES;
+use map::PIXELS;
+use map::WORDS;
+use map::Words;
+use offsets::ENTRIES;
 use offsets::Offset;
 use refusal::Refusal;
 use refusal::Verdict;
-use tables::Coefficient;
+use tables::K;
 
 // What loading answers: the verdict, and the record, which after a refusal is all zero.
 pub struct Loaded {
@@ -27,65 +34,72 @@ pub enum Subpage {
     One,
 }
 
-// Refusals 4 and 5, of the data of a card's words.
-fn offsets_gate(words: &[u16; 832]) -> Verdict
-    ensures { λ r. ⌜ r ≡ offsetsVerdict (at (now (words .entry))) ⌝ }
+// The length of the shortest of five tables.
+fn shortest_of(offsets0: usize, offsets1: usize, alpha: usize, k_v: usize, k_ta: usize) -> usize
+    ensures { λ r. ⌜ r ≡ min (min offsets0 offsets1) (min alpha (min «k_v» «k_ta»)) ⌝ }
 {
-    let scale = offsets::read_scale(words);
-    let power = scale.scale;
-    if 15 <= power {
-        return Verdict::Refused(Refusal::OffsetScale { scale: power });
+    util::least(
+        util::least(offsets0, offsets1),
+        util::least(alpha, util::least(k_v, k_ta)),
+    )
+}
+
+// Refusals 4 and 5, of the data of a card's words.
+fn data_gate(words: &Words) -> Verdict
+    ensures { λ r. ⌜ r ≡ firstOf (dataTests (at (now (words .entry)))) ⌝ }
+{
+    let scale = offsets::offset_scale(words);
+    if 15 <= scale {
+        return Verdict::Refused(Refusal::LargeScale { scale });
     }
-    let entry = offsets::first_outside(words, scale);
-    if entry < 384 {
+    let entry = offsets::first_outside(words);
+    if entry < ENTRIES {
         return Verdict::Refused(Refusal::OffsetRange { entry });
     }
     Verdict::Pass
 }
 
 // All that stops a load, lowest number first. Where nothing does, `words` has the data of the card's words.
-fn gate(image: &[u8], shortest: usize, words: &mut [u16; 832]) -> Verdict
-    requires { ⌜ length (now words) ≡ 832 ⌝ }
-    ensures { λ r. ⌜ r ≡ loadVerdict (now (image .entry)) shortest ⌝ }
-    ensures { λ r. ⌜ (r ≡ Pass → now (words .exit) ≡ filled (dataAt (now (image .entry))) 832 (now (words .entry))) ⌝ }
+fn gate(image: &[u8], table: usize, words: &mut Words) -> Verdict
+    requires { ⌜ length (now words) ≡ cardWords ⌝ }
+    ensures { λ r. ⌜ r ≡ firstOf (loadTests (now (image .entry)) table) ⌝ }
+    ensures { λ r. ⌜ (r ≡ Pass → now (words .exit) ≡ filled (dataAt (now (image .entry))) cardWords (now (words .entry))) ⌝ }
 {
     let length = image.len();
-    if length < 1664 {
+    if length < IMAGE_BYTES {
         return Verdict::Refused(Refusal::ShortImage { length });
     }
-    if shortest < 192 {
+    if table < PIXELS {
         return Verdict::Refused(Refusal::ShortTable);
     }
     let word = card::decode(image, words);
-    if word < 832 {
+    if word < WORDS {
         let bits = util::word_at(image, word);
         return Verdict::Refused(Refusal::DamagedWord { word, bits });
     }
-    offsets_gate(words)
+    data_gate(words)
 }
 
-// The five tables, from the data of words that the gate let through.
+// The five tables and the record, from the data of words that the gate let through.
 fn fill_all(
-    words: &[u16; 832],
+    words: &Words,
     offsets0: &mut [Offset],
     offsets1: &mut [Offset],
     alpha: &mut [f32],
     k_v: &mut [f32],
     k_ta: &mut [f32],
-)
-    requires { ⌜ ((k : ℕ) → at (now words) k < 2048) ⌝ }
-    requires { ⌜ scaleOf (at (now words)) .scale < 15 ⌝ }
-    requires { ⌜ ((k : ℕ) → k < 384 → outsideAt (at (now words)) k ≡ false) ⌝ }
-    requires { ⌜ (192 ≤ length (now offsets0)) × (192 ≤ length (now offsets1)) × (192 ≤ length (now alpha)) × (192 ≤ length (now «k_v»)) × (192 ≤ length (now «k_ta»)) ⌝ }
-    ensures { λ _. ⌜ Filled (at (now (words .entry))) (now (offsets0 .entry)) (now (offsets1 .entry)) (now (alpha .entry)) (now («k_v» .entry)) (now («k_ta» .entry))
-        (now (offsets0 .exit)) (now (offsets1 .exit)) (now (alpha .exit)) (now («k_v» .exit)) (now («k_ta» .exit)) ⌝ }
+) -> Calibration
+    requires { ⌜ Passed (at (now words)) (tables (now offsets0) (now offsets1) (now alpha) (now «k_v») (now «k_ta»)) ⌝ }
+    ensures { λ r. ⌜ r ≡ calibrationOf (at (now (words .entry))) ⌝ }
+    ensures { λ _. ⌜ tables (now (offsets0 .exit)) (now (offsets1 .exit)) (now (alpha .exit)) (now («k_v» .exit)) (now («k_ta» .exit))
+        ≡ filledTables (at (now (words .entry))) (tables (now (offsets0 .entry)) (now (offsets1 .entry)) (now (alpha .entry)) (now («k_v» .entry)) (now («k_ta» .entry))) ⌝ }
 {
-    let scale = offsets::read_scale(words);
-    offsets::fill_offsets(words, scale, 0, offsets0);
-    offsets::fill_offsets(words, scale, 192, offsets1);
+    offsets::fill_offsets(words, 0, offsets0);
+    offsets::fill_offsets(words, PIXELS, offsets1);
     tables::fill_alpha(words, alpha);
-    tables::fill_k(words, Coefficient::KV, k_v);
-    tables::fill_k(words, Coefficient::KTa, k_ta);
+    tables::fill_k(words, K::KV, k_v);
+    tables::fill_k(words, K::KTa, k_ta);
+    calibration::read_calibration(words)
 }
 
 // Loads a card: checking is complete before the first entry is written.
@@ -97,15 +111,18 @@ pub fn load(
     k_v: &mut [f32],
     k_ta: &mut [f32],
 ) -> Loaded
-    ensures { λ r. ⌜ Loads (now (image .entry)) (now (offsets0 .entry)) (now (offsets1 .entry)) (now (alpha .entry)) (now («k_v» .entry)) (now («k_ta» .entry))
-        (now (offsets0 .exit)) (now (offsets1 .exit)) (now (alpha .exit)) (now («k_v» .exit)) (now («k_ta» .exit)) r ⌝ }
+    ensures { λ r. ⌜ Loads (now (image .entry)) (tables (now (offsets0 .entry)) (now (offsets1 .entry)) (now (alpha .entry)) (now («k_v» .entry)) (now («k_ta» .entry)))
+        (tables (now (offsets0 .exit)) (now (offsets1 .exit)) (now (alpha .exit)) (now («k_v» .exit)) (now («k_ta» .exit))) r ⌝ }
 {
-    let shortest = util::least(
-        util::least(offsets0.len(), offsets1.len()),
-        util::least(alpha.len(), util::least(k_v.len(), k_ta.len())),
+    let table = shortest_of(
+        offsets0.len(),
+        offsets1.len(),
+        alpha.len(),
+        k_v.len(),
+        k_ta.len(),
     );
-    let mut words = [0u16; 832];
-    let verdict = gate(image, shortest, &mut words);
+    let mut words = [0u16; WORDS];
+    let verdict = gate(image, table, &mut words);
     let Verdict::Pass = verdict else {
         let calibration = calibration::no_calibration();
         return Loaded {
@@ -113,8 +130,7 @@ pub fn load(
             calibration,
         };
     };
-    fill_all(&words, offsets0, offsets1, alpha, k_v, k_ta);
-    let calibration = calibration::read_calibration(&words);
+    let calibration = fill_all(&words, offsets0, offsets1, alpha, k_v, k_ta);
     Loaded {
         verdict,
         calibration,
@@ -128,7 +144,7 @@ pub fn alpha_row(image: &[u8], row: usize) -> &[u8]
     if 5 < row {
         return &image[0..0];
     }
-    if image.len() < 1664 {
+    if image.len() < IMAGE_BYTES {
         return &image[0..0];
     }
     let start = 512 + row * 64;
@@ -140,10 +156,10 @@ pub fn alpha_row(image: &[u8], row: usize) -> &[u8]
 fn first_192(table: &[Offset]) -> &[Offset]
     ensures { λ r. ⌜ now r ≡ first192 (now (table .entry)) ⌝ }
 {
-    if table.len() < 192 {
+    if table.len() < PIXELS {
         &table[0..0]
     } else {
-        &table[0..192]
+        &table[0..PIXELS]
     }
 }
 

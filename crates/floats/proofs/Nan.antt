@@ -1,12 +1,13 @@
 -- Not-a-numbers: which values and which patterns are, and the one that code makes. Assumes nothing.
 use Prim.Native.Nat.{ℕ, _%_, _<_, _≤_}
 use mathlib.Core.Path.{_≡_, refl, sym, ap, _∙_, subst}
-use mathlib.Core.Bool.{Bool, true, false, not}
-use lib.Dec.{T}
-use lib.Ieee.{Float, nan, inf, fin, binary32, div, ne, isNan, nanBits, ofBits, toBits}
-use lib.Ieee.Bits.{nanBits-is, nanBits-above, is-false}
+use mathlib.Core.Bool.{Bool, true, false, not, true≢false}
+use lib.Dec.{T, eqb}
+use lib.Ieee.{Float, nan, inf, fin, binary32, fits, div, ne, isNan, nanBits, ofBits, toBits}
+use lib.Ieee.Bits.{nanBits-is, nanBits-above, is-false, ofBits-toBits}
 use lib.Ieee.Compare.{differs-from-itself}
-use borrow.Author.Tests.{lt-ltb, le-ltb}
+use borrow.Author.Tests.{lt-ltb, le-ltb, eq-eqb, ne-eqb}
+use Rattle.floats.specs.Constants.{pattern}
 
 pub is-nan : (x : Float) → isNan x ≡ true → x ≡ nan
 unfolding isNan
@@ -40,10 +41,28 @@ pub zero-by-zero : div binary32 (ofBits binary32 0) (ofBits binary32 0) ≡ nan
 unfolding div ofBits
 zero-by-zero = refl
 
--- the pattern of every not-a-number that is written or returned
-pub nan-bits : toBits binary32 nan ≡ 0x7FC00000
+-- ---- the pattern
+
+pub nan-bits : toBits binary32 nan ≡ pattern
 unfolding toBits
 nan-bits = refl
+
+pattern-nan : ofBits binary32 pattern ≡ nan
+unfolding ofBits
+pattern-nan = refl
+
+-- a number has other bits
+pub pattern-only : (x : Float) → T (fits binary32 x) → toBits binary32 x ≡ pattern → isNan x ≡ true
+unfolding isNan
+pattern-only x f e = ap isNan (sym (ofBits-toBits binary32 x f) ∙ ap (ofBits binary32) e ∙ pattern-nan)
+
+-- so the pattern tells
+pub pattern-tells : (x : Float) → T (fits binary32 x) → eqb (toBits binary32 x) pattern ≡ isNan x
+pattern-tells x f = go (isNan x) refl
+  where
+    go : (b : Bool) → isNan x ≡ b → eqb (toBits binary32 x) pattern ≡ b
+    go true e = eq-eqb _ _ (ap (toBits binary32) (is-nan x e) ∙ nan-bits)
+    go false e = ne-eqb _ _ (λ q. true≢false (sym (pattern-only x f q) ∙ e))
 
 -- a pattern above the infinity's, the sign taken off, is a not-a-number's
 pub nan-above : (b : ℕ) → 0x7F800000 < b % 0x80000000 → ofBits binary32 b ≡ nan

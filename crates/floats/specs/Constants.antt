@@ -31,6 +31,10 @@ alphaFull = ofBits binary32 0x44FFE000
 abbrev pub twoTo18 : Float
 twoTo18 = ofBits binary32 0x48800000
 
+-- the bits of every not-a-number that is written or returned
+abbrev pub pattern : ℕ
+pattern = 0x7FC00000
+
 -- x is the binary32 nearest to num / den
 pub data Constant : Type 0 where
   nearest : Float → ℕ → ℕ → Constant

@@ -22,9 +22,9 @@ x ⊗ y = mul binary32 x y
 abbrev pub _⊘_ : Float → Float → Float
 x ⊘ y = div binary32 x y
 
--- a whole number, rounded once where it is beyond 2 ^ 24
-abbrev pub whole : ℤ → Float
-whole z = ofInt binary32 z
+-- a whole number as a binary32, rounded once where it is beyond 2 ^ 24
+abbrev pub real : ℤ → Float
+real z = ofInt binary32 z
 
 -- 2 ^ e, which is 1 times 2 ^ e; infinity from 2 ^ 128 on
 unfoldable pub powerOfTwo : ℕ → Float
@@ -32,4 +32,4 @@ powerOfTwo e = pick (ltb e 128) (fin false 1 (pos e)) (inf false)
 
 -- a whole number over 2 ^ e
 abbrev pub over : ℤ → ℕ → Float
-over z e = whole z ⊘ powerOfTwo e
+over z e = real z ⊘ powerOfTwo e

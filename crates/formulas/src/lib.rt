@@ -1,8 +1,9 @@
 // The formulas of a frame, in document 01's order of operations, each step an f32 rounded once. Every function is total.
 ghost use mathlib.Core.Path.{_≡_};
 ghost use Rattle.root.specs.Root.{celsius};
-ghost use Rattle.formulas.specs.Frame.{deltaOf, supplyOf, denominatorOf, artOf, correctionOf, ambientOf, commonOf, lessOf};
-ghost use Rattle.formulas.specs.Pixel.{infraredOf, termOf, fourth, reflectedOf, tArOf, sensitivityOf, alphaTermOf, commonToOf, compensatedOf, finalOf, decided};
+ghost use Rattle.formulas.specs.Frame.{deltaOf, supplyOf, denominatorOf, artOf, ptatCorrectionOf, ambientOf, commonOf};
+ghost use Rattle.formulas.specs.Pixel.{plainOf, fourth, reflectedOf, tArOf, answerOf};
+ghost use Rattle.formulas.specs.Inner.{deducted, compensationOf, alphaDeductionOf, correctionOf, commonToOf, liftedSensitivity, liftedFinal};
 use calibration::Calibration;
 use calibration::Gradient;
 
@@ -35,16 +36,16 @@ pub enum Reflected {
     Ambient { self_heating: f32 },
 }
 
-// What is subtracted from every pixel's number, if anything.
-pub enum Less {
+// What is deducted from every pixel's number, if anything.
+pub enum Deduction {
     Nothing,
-    By(f32),
+    Amount(f32),
 }
 
 // What all pixels share on the way from infrared to temperature.
 pub struct CommonToData {
-    pub alpha_less: Less,
-    pub sensitivity: f32,
+    pub alpha_deduction: Deduction,
+    pub correction: f32,
     pub t_ar: f32,
     pub k_s_to: f32,
     pub slope: f32,
@@ -84,7 +85,7 @@ pub fn v_ptat_art(calibration: Calibration, ram: RamData) -> f32
 
 // The divisor of v_ptat_art in the ambient temperature.
 pub fn ptat_correction(calibration: Calibration, delta: f32) -> f32
-    ensures { λ r. ⌜ r ≡ correctionOf calibration delta ⌝ }
+    ensures { λ r. ⌜ r ≡ ptatCorrectionOf calibration delta ⌝ }
 {
     1.0 + calibration.k_v_ptat * delta
 }
@@ -115,28 +116,28 @@ pub fn common_ir_data(
     }
 }
 
-// A number less what is subtracted.
-pub fn reduced(x: f32, by: Less) -> f32
-    ensures { λ r. ⌜ r ≡ lessOf x by ⌝ }
+// A number less what is deducted.
+pub fn deduct(x: f32, by: Deduction) -> f32
+    ensures { λ r. ⌜ r ≡ deducted x by ⌝ }
 {
     match by {
-        Less::Nothing => x,
-        Less::By(y) => x - y,
+        Deduction::Nothing => x,
+        Deduction::Amount(y) => x - y,
     }
 }
 
 // A pixel's infrared number before the gradient, from its reading, its offset and its coefficients as numbers.
 pub fn per_pixel_v_ir(reading: f32, common: CommonIrData, offset: f32, k_v: f32, k_ta: f32) -> f32
-    ensures { λ r. ⌜ r ≡ infraredOf reading common offset «k_v» «k_ta» ⌝ }
+    ensures { λ r. ⌜ r ≡ plainOf common reading offset «k_v» «k_ta» ⌝ }
 {
     (reading * common.gain + 0.0
         - (offset * (1.0 + k_ta * (common.t_a - 25.0))) * (1.0 + k_v * (common.v_dd - 3.3)))
         / common.emissivity
 }
 
-// The compensation pixel's part of every pixel's infrared number, from its reading.
-pub fn compensation_term(calibration: Calibration, common: CommonIrData, reading: f32) -> Less
-    ensures { λ r. ⌜ r ≡ termOf calibration common reading ⌝ }
+// What the compensation pixel deducts from every pixel's infrared number, from its reading.
+pub fn compensation(calibration: Calibration, common: CommonIrData, reading: f32) -> Deduction
+    ensures { λ r. ⌜ r ≡ compensationOf calibration common reading ⌝ }
 {
     let gradient = calibration.temperature_gradient_coefficient;
     match gradient {
@@ -149,9 +150,9 @@ pub fn compensation_term(calibration: Calibration, common: CommonIrData, reading
                 calibration.k_v_cp,
                 calibration.k_ta_cp,
             );
-            Less::By(coefficient * v_ir)
+            Deduction::Amount(coefficient * v_ir)
         }
-        Gradient::Missing => Less::Nothing,
+        Gradient::Missing => Deduction::Nothing,
     }
 }
 
@@ -184,19 +185,19 @@ pub fn t_ar(t_a: f32, t_r: f32, emissivity: f32) -> f32
 }
 
 pub fn sensitivity_correction_coefficient(calibration: Calibration, t_a: f32) -> f32
-    ensures { λ r. ⌜ r ≡ sensitivityOf calibration «t_a» ⌝ }
+    ensures { λ r. ⌜ r ≡ correctionOf calibration «t_a» ⌝ }
 {
     1.0 + calibration.k_s_ta * (t_a - 25.0)
 }
 
-// The compensation pixel's part of every pixel's sensitivity.
-pub fn alpha_term(calibration: Calibration) -> Less
-    ensures { λ r. ⌜ r ≡ alphaTermOf calibration ⌝ }
+// What the compensation pixel deducts from every pixel's sensitivity.
+pub fn alpha_deduction(calibration: Calibration) -> Deduction
+    ensures { λ r. ⌜ r ≡ alphaDeductionOf calibration ⌝ }
 {
     let gradient = calibration.temperature_gradient_coefficient;
     match gradient {
-        Gradient::Coefficient(coefficient) => Less::By(calibration.alpha_cp * coefficient),
-        Gradient::Missing => Less::Nothing,
+        Gradient::Coefficient(coefficient) => Deduction::Amount(calibration.alpha_cp * coefficient),
+        Gradient::Missing => Deduction::Nothing,
     }
 }
 
@@ -212,29 +213,29 @@ pub fn common_to_data(
 {
     let t_r = reflected_temperature(reflected, t_a);
     CommonToData {
-        alpha_less: alpha_term(calibration),
-        sensitivity: sensitivity_correction_coefficient(calibration, t_a),
+        alpha_deduction: alpha_deduction(calibration),
+        correction: sensitivity_correction_coefficient(calibration, t_a),
         t_ar: t_ar(t_a, t_r, emissivity),
         k_s_to,
         slope: 1.0 - k_s_to * 273.15,
     }
 }
 
-// A pixel's sensitivity, compensated.
-pub fn compensated_alpha(alpha: f32, common: CommonToData) -> f32
-    ensures { λ r. ⌜ r ≡ compensatedOf alpha common ⌝ }
+// A pixel's compensated sensitivity, document 01's A.
+pub fn sensitivity(alpha: f32, common: CommonToData) -> f32
+    ensures { λ r. ⌜ r ≡ liftedSensitivity alpha common ⌝ }
 {
-    let by = common.alpha_less;
-    reduced(alpha, by) * common.sensitivity
+    let by = common.alpha_deduction;
+    deduct(alpha, by) * common.correction
 }
 
-// The final value under the fourth root, from a pixel's infrared number and its compensated sensitivity.
-pub fn final_value(v_ir: f32, alpha: f32, common: CommonToData) -> f32
-    ensures { λ r. ⌜ r ≡ finalOf «v_ir» alpha common ⌝ }
+// The final value under the fourth root, document 01's X, from a pixel's infrared number and its A.
+pub fn final_value(v_ir: f32, a: f32, common: CommonToData) -> f32
+    ensures { λ r. ⌜ r ≡ liftedFinal «v_ir» a common ⌝ }
 {
-    let cubed = (alpha * alpha) * alpha;
-    let s = common.k_s_to * root::fourth_root(cubed * v_ir + fourth_power(alpha) * common.t_ar);
-    v_ir / (alpha * common.slope + s) + common.t_ar
+    let cubed = (a * a) * a;
+    let s = common.k_s_to * root::fourth_root(cubed * v_ir + fourth_power(a) * common.t_ar);
+    v_ir / (a * common.slope + s) + common.t_ar
 }
 
 // The temperature of a final value.
@@ -246,7 +247,7 @@ fn temperature(value: f32) -> f32
 
 // What a pixel gives, from its infrared number and its final value.
 pub fn pixel_answer(v_ir: f32, value: f32) -> Pixel
-    ensures { λ r. ⌜ r ≡ decided (celsius value) «v_ir» ⌝ }
+    ensures { λ r. ⌜ r ≡ answerOf value «v_ir» ⌝ }
 {
     let t = temperature(value);
     if t != t {

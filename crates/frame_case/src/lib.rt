@@ -10,6 +10,7 @@ use formulas::RamData;
 use formulas::Reflected;
 use formulas::Supply;
 use libc::STDOUT_FILENO;
+use offsets::Offset;
 
 // What a run asks for, and what it lends. Of a mask of 200 bytes, of 400 pixel bytes and of a destination of 200 entries it lends the
 // first so many.
@@ -116,16 +117,16 @@ fn supply() -> Supply {
     }
 }
 
-fn offsets_0() -> [i16; 200] {
-    let mut offsets = [-70i16; 200];
+fn offsets_0() -> [Offset; 200] {
+    let mut offsets: [Offset; 200] = [-70; 200];
     offsets[0] = -111;
     offsets[1] = 0;
     offsets[191] = -30;
     offsets
 }
 
-fn offsets_1() -> [i16; 200] {
-    let mut offsets = [-65i16; 200];
+fn offsets_1() -> [Offset; 200] {
+    let mut offsets: [Offset; 200] = [-65; 200];
     offsets[0] = -80;
     offsets[1] = -32768;
     offsets[191] = -31;
@@ -213,8 +214,9 @@ fn answer(frame: Frame) {
             tab_number(lost as u64);
         }
         Frame::Refused(refusal) => {
-            tab_number(refusal.number());
-            tab_number(refusal.place());
+            let told = refusal.told();
+            tab_number(told.number);
+            tab_number(told.place);
             tab_number(0);
             tab_number(0);
         }
@@ -256,8 +258,8 @@ fn infrared_of<'a>(
     calibration: Calibration,
     ram: RamData,
     ask: Ask,
-    offsets0: &'a [i16],
-    offsets1: &'a [i16],
+    offsets0: &'a [Offset],
+    offsets1: &'a [Offset],
     k_v: &[f32],
     k_ta: &[f32],
     pixels: &[u8],
@@ -305,8 +307,8 @@ fn pass_of<'a>(
     calibration: Calibration,
     ram: RamData,
     ask: Ask,
-    offsets0: &'a [i16],
-    offsets1: &'a [i16],
+    offsets0: &'a [Offset],
+    offsets1: &'a [Offset],
     alpha: &[f32],
     k_v: &[f32],
     k_ta: &[f32],
@@ -339,8 +341,8 @@ pub fn infrared_on<'a>(
     calibration: Calibration,
     ram: RamData,
     ask: Ask,
-    offsets0: &'a [i16; 200],
-    offsets1: &'a [i16; 200],
+    offsets0: &'a [Offset; 200],
+    offsets1: &'a [Offset; 200],
     k_v: &[f32; 200],
     k_ta: &[f32; 200],
 ) {
@@ -374,8 +376,8 @@ pub fn pass_on<'a>(
     calibration: Calibration,
     ram: RamData,
     ask: Ask,
-    offsets0: &'a [i16; 200],
-    offsets1: &'a [i16; 200],
+    offsets0: &'a [Offset; 200],
+    offsets1: &'a [Offset; 200],
     alpha: &[f32; 200],
     k_v: &[f32; 200],
     k_ta: &[f32; 200],

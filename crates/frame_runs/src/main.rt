@@ -4,6 +4,7 @@
 use calibration::Calibration;
 use calibration::Gradient;
 use formulas::RamData;
+use offsets::Offset;
 
 // ---- Usual frames
 
@@ -82,8 +83,8 @@ fn known_roots() {
 
 fn wiped_ranges<'a>(
     calibration: Calibration,
-    offsets0: &'a [i16; 200],
-    offsets1: &'a [i16; 200],
+    offsets0: &'a [Offset; 200],
+    offsets1: &'a [Offset; 200],
     alpha: &[f32; 200],
     k_v: &[f32; 200],
     k_ta: &[f32; 200],
@@ -108,8 +109,8 @@ fn wiped_ranges<'a>(
 
 fn wiped<'a>(
     calibration: Calibration,
-    offsets0: &'a [i16; 200],
-    offsets1: &'a [i16; 200],
+    offsets0: &'a [Offset; 200],
+    offsets1: &'a [Offset; 200],
     alpha: &[f32; 200],
     k_v: &[f32; 200],
     k_ta: &[f32; 200],
@@ -129,8 +130,8 @@ fn wiped<'a>(
 
 fn all_zero() {
     let image = [0u8; 1664];
-    let mut offsets0 = [77i16; 200];
-    let mut offsets1 = [77i16; 200];
+    let mut offsets0: [Offset; 200] = [77; 200];
+    let mut offsets1: [Offset; 200] = [77; 200];
     let mut alpha = [77.0f32; 200];
     let mut k_v = [77.0f32; 200];
     let mut k_ta = [77.0f32; 200];

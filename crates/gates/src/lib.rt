@@ -1,11 +1,19 @@
 // What stops a frame, lowest number first. Each test is one function, and the three gates share them.
 ghost use mathlib.Core.Path.{_≡_};
-ghost use lib.Dec.{ltb};
-ghost use Rattle.gates.specs.Gate.{badEmissivity, zeroDivisor, supplyOutside, readingVerdict, infraredVerdict, temperatureVerdict, onePassVerdict};
+ghost use Rattle.refusal.specs.Order.{firstOf};
+ghost use Rattle.gates.specs.Gate.{badEmissivity, zeroDivisor, supplyOutside, lengthTests, rangeTests, readingTests, emissivityTests, infraredTests, temperatureTests, onePassTests};
 use calibration::Calibration;
 use formulas::RamData;
+use map::PIXELS;
 use refusal::Refusal;
 use refusal::Verdict;
+
+// How long what a frame is lent is: the shortest of its tables, its pixel bytes and its destination.
+pub struct Lengths {
+    pub table: usize,
+    pub pixels: usize,
+    pub destination: usize,
+}
 
 // Whether an emissivity stops a frame: a zero of either sign, or not a number.
 fn emissivity_stops(emissivity: f32) -> bool
@@ -44,16 +52,29 @@ fn supply_stops(calibration: Calibration, ram: RamData) -> bool
     !util::fits_i16(util::difference(ram.v_dd_pixel, calibration.v_dd_25))
 }
 
-// Whether a basic range is none of the eight.
-fn range_stops(basic_range: usize) -> bool
-    ensures { λ r. ⌜ r ≡ ltb 7 «basic_range» ⌝ }
+// Refusal 2.
+fn length_gate(lengths: Lengths) -> Verdict
+    ensures { λ r. ⌜ r ≡ firstOf (lengthTests lengths) ⌝ }
 {
-    7 < basic_range
+    if lengths.table < PIXELS {
+        return Verdict::Refused(Refusal::ShortTable);
+    }
+    Verdict::Pass
 }
 
-// Refusals 7 and 8, of both calls that take pixels.
+// Refusal 6.
+fn range_gate(basic_range: usize) -> Verdict
+    ensures { λ r. ⌜ r ≡ firstOf (rangeTests «basic_range») ⌝ }
+{
+    if 7 < basic_range {
+        return Verdict::Refused(Refusal::BasicRange { range: basic_range });
+    }
+    Verdict::Pass
+}
+
+// Refusals 7 and 8, where pixels are taken.
 fn reading_gate(calibration: Calibration, emissivity: f32, ram: RamData) -> Verdict
-    ensures { λ r. ⌜ r ≡ readingVerdict calibration emissivity ram ⌝ }
+    ensures { λ r. ⌜ r ≡ firstOf (readingTests calibration emissivity ram) ⌝ }
 {
     if supply_stops(calibration, ram) {
         return Verdict::Refused(Refusal::SupplyRange);
@@ -67,52 +88,48 @@ fn reading_gate(calibration: Calibration, emissivity: f32, ram: RamData) -> Verd
     Verdict::Pass
 }
 
-// What stops a frame of infrared: `table` is the length of the shortest of its four tables.
-pub fn infrared_gate(
-    calibration: Calibration,
-    emissivity: f32,
-    ram: RamData,
-    table: usize,
-) -> Verdict
-    ensures { λ r. ⌜ r ≡ infraredVerdict calibration emissivity ram table ⌝ }
+// Refusal 8 for emissivity only.
+fn emissivity_gate(emissivity: f32) -> Verdict
+    ensures { λ r. ⌜ r ≡ firstOf (emissivityTests emissivity) ⌝ }
 {
-    if table < 192 {
-        return Verdict::Refused(Refusal::ShortTable);
-    }
-    reading_gate(calibration, emissivity, ram)
-}
-
-// What stops a frame from infrared to temperature: `alpha` is that table's length.
-pub fn temperature_gate(emissivity: f32, basic_range: usize, alpha: usize) -> Verdict
-    ensures { λ r. ⌜ r ≡ temperatureVerdict emissivity «basic_range» alpha ⌝ }
-{
-    if alpha < 192 {
-        return Verdict::Refused(Refusal::ShortTable);
-    }
-    if range_stops(basic_range) {
-        return Verdict::Refused(Refusal::BasicRange { range: basic_range });
-    }
     if emissivity_stops(emissivity) {
         return Verdict::Refused(Refusal::ZeroDivisor);
     }
     Verdict::Pass
 }
 
-// What stops a frame in one pass: `shortest` is the length of the shortest of its five tables.
+// What stops a frame of infrared.
+pub fn infrared_gate(
+    calibration: Calibration,
+    emissivity: f32,
+    ram: RamData,
+    lengths: Lengths,
+) -> Verdict
+    ensures { λ r. ⌜ r ≡ firstOf (infraredTests calibration emissivity ram lengths) ⌝ }
+{
+    length_gate(lengths).then(reading_gate(calibration, emissivity, ram))
+}
+
+// What stops a frame from infrared to temperature.
+pub fn temperature_gate(emissivity: f32, basic_range: usize, lengths: Lengths) -> Verdict
+    ensures { λ r. ⌜ r ≡ firstOf (temperatureTests emissivity «basic_range» lengths) ⌝ }
+{
+    length_gate(lengths).then(range_gate(basic_range).then(emissivity_gate(emissivity)))
+}
+
+// What stops a frame in one pass.
 pub fn one_pass_gate(
     calibration: Calibration,
     emissivity: f32,
     ram: RamData,
     basic_range: usize,
-    shortest: usize,
+    lengths: Lengths,
 ) -> Verdict
-    ensures { λ r. ⌜ r ≡ onePassVerdict calibration emissivity ram «basic_range» shortest ⌝ }
+    ensures { λ r. ⌜ r ≡ firstOf (onePassTests calibration emissivity ram «basic_range» lengths) ⌝ }
 {
-    if shortest < 192 {
-        return Verdict::Refused(Refusal::ShortTable);
-    }
-    if range_stops(basic_range) {
-        return Verdict::Refused(Refusal::BasicRange { range: basic_range });
-    }
-    reading_gate(calibration, emissivity, ram)
+    length_gate(lengths).then(range_gate(basic_range).then(reading_gate(
+        calibration,
+        emissivity,
+        ram,
+    )))
 }

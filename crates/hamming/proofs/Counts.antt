@@ -14,7 +14,7 @@ use Rattle.lists.specs.Pick.{pick}
 use Rattle.lists.specs.Count.{countBelow}
 use Rattle.lists.proofs.Count.{count-add, count-same, count-not}
 use Rattle.hamming.specs.Word.{parity, accepted}
-use Rattle.hamming.specs.Syndrome.{syndromeOf}
+use Rattle.hamming.specs.Inner.{syndromeOf}
 use Rattle.hamming.proofs.Xor.{xor-assoc}
 use Rattle.hamming.proofs.Codes.{syn-xor, syn-lt}
 use Rattle.hamming.proofs.Laws.{col, syn-bit, accepted-by}

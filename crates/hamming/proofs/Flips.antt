@@ -14,29 +14,11 @@ use Rattle.lists.specs.Pick.{pick}
 use Rattle.lists.specs.First.{firstFrom}
 use Rattle.lists.proofs.Every.{both, both-left, both-right, at, at2}
 use Rattle.hamming.specs.Word.{parity, encoded, codeword, dataOf, flip, place, Said, says, damaged, mended, decoded, isSaid, accepted, oddOnes}
-use Rattle.hamming.specs.Syndrome.{syndromeOf}
+use Rattle.hamming.specs.Inner.{syndromeOf}
 use Rattle.hamming.proofs.Xor.{bit, xor-twice}
 use Rattle.hamming.proofs.Linear.{parity-xor, parity-lt}
 use Rattle.hamming.proofs.Codes.{syn-encoded, data-of-encoded, encoded-lt}
-use Rattle.hamming.proofs.Laws.{col, syn-flip, flip-lt, placeBy, place-by, decodedBy, decoded-by, AtMostOne, says-is, odd-by, accepted-is}
-
-not-t : (b : Bool) → T (not b) → b ≡ false
-not-t true t = absurd t
-not-t false t = refl
-
-pub or-use : (a b : Bool) → T (a || b) → (T a → ⊥) → T b
-or-use true b t n = absurd (n tt)
-or-use false b t n = t
-
--- a word is mended at the bit that its syndrome points at, if that is not 0
-pub away : (w s : ℕ) → w < 65536 → syndromeOf w ≡ s → T (not (eqb s 0)) → decoded w ≡ mended w (placeBy s)
-away w s h e n =
-    decoded-by w h ∙ ap (λ (x : ℕ). decodedBy x w) e
-    ∙ ap (λ (b : Bool). pick b (says (dataOf w)) (mended w (placeBy s))) (not-t (eqb s 0) n)
-
--- and there it says the data of the word with that bit flipped
-pub mended-at : (w k : ℕ) → k < 16 → mended w k ≡ says (dataOf (flip k w))
-mended-at w k h = ap (λ (b : Bool). pick b (says (dataOf (flip k w))) damaged) (lt-ltb k 16 h)
+use Rattle.hamming.proofs.Laws.{col, syn-flip, flip-lt, placeBy, place-by, decodedBy, decoded-by, or-use, away, mended-at, AtMostOne, says-is, odd-by, accepted-is}
 
 -- ---- none
 

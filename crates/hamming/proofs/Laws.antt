@@ -10,13 +10,13 @@ use lib.Count.{onesIn}
 use lib.Dec.{T, eqb, leb, ltb, eqb→eq}
 use lib.ListN.{getD}
 use lib.Pow.{pow-lt}
-use borrow.Author.Tests.{eqb-true, lt-leb, le-leb, ltb-true}
+use borrow.Author.Tests.{eqb-true, lt-leb, le-leb, ltb-true, lt-ltb}
 use Rattle.lists.specs.Pick.{pick}
 use Rattle.lists.specs.First.{firstFrom}
 use Rattle.lists.proofs.First.{is-first, first-same}
 use Rattle.lists.proofs.Every.{at}
 use Rattle.hamming.specs.Word.{parity, encoded, codeword, dataOf, flip, place, Said, says, damaged, mended, decoded, isSaid, accepted, oddOnes}
-use Rattle.hamming.specs.Syndrome.{syndromeOf}
+use Rattle.hamming.specs.Inner.{syndromeOf}
 use Rattle.hamming.proofs.Xor.{bit, xor-twice}
 use Rattle.hamming.proofs.Linear.{parity-lt}
 use Rattle.hamming.proofs.Codes.{syn-lt, syn-xor, codeword-syn}
@@ -62,6 +62,24 @@ pub decoded-by : (w : ℕ) → w < 65536 → decoded w ≡ decodedBy (syndromeOf
 unfolding decoded
 decoded-by w h =
     ap₂ (λ (b : Bool) (k : ℕ). pick b (says (dataOf w)) (mended w k)) (codeword-syn w h) (place-by w h)
+
+not-t : (b : Bool) → T (not b) → b ≡ false
+not-t true t = absurd t
+not-t false t = refl
+
+pub or-use : (a b : Bool) → T (a || b) → (T a → ⊥) → T b
+or-use true b t n = absurd (n tt)
+or-use false b t n = t
+
+-- a word is mended at the bit that its syndrome points at, if that is not 0
+pub away : (w s : ℕ) → w < 65536 → syndromeOf w ≡ s → T (not (eqb s 0)) → decoded w ≡ mended w (placeBy s)
+away w s h e n =
+    decoded-by w h ∙ ap (λ (x : ℕ). decodedBy x w) e
+    ∙ ap (λ (b : Bool). pick b (says (dataOf w)) (mended w (placeBy s))) (not-t (eqb s 0) n)
+
+-- and there it says the data of the word with that bit flipped
+pub mended-at : (w k : ℕ) → k < 16 → mended w k ≡ says (dataOf (flip k w))
+mended-at w k h = ap (λ (b : Bool). pick b (says (dataOf (flip k w))) damaged) (lt-ltb k 16 h)
 
 -- ---- what is accepted says: the data of a codeword at most a flip away
 

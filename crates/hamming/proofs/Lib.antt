@@ -1,9 +1,10 @@
--- The laws that callers cite are in Laws, Flips and Counts; the others lead there.
-pub mod Xor
-pub mod Linear
-pub mod Codes
+-- The laws that callers cite are in Answers, Laws, Flips and Counts; the others lead there.
+mod Xor
+mod Linear
+mod Codes
+mod Put
+mod Table
+pub mod Answers
 pub mod Laws
 pub mod Flips
 pub mod Counts
-pub mod Put
-pub mod Table

@@ -2,7 +2,7 @@
 use mathlib.Core.Path.{_≡_, refl, ap, _∙_}
 use mathlib.Core.Bool.{Bool, _||_}
 use mathlib.Core.List.{List, [], _∷_}
-use Prim.Native.Nat.{ℕ, _-_, _^_, _<_, _≤_}
+use Prim.Native.Nat.{ℕ, _%_, _^_, _<_, _≤_}
 use native.Mathlib.Nat.{not-le-of-lt}
 use native.Mathlib.Omega.{arith}
 use lib.Bits.{bitXor}
@@ -11,10 +11,9 @@ use lib.ListN.{getD}
 use Rattle.lists.specs.First.{firstFrom}
 use Rattle.lists.proofs.Every.{both, both-left, both-right, at}
 use Rattle.hamming.specs.Word.{dataOf, mended, decoded, says, damaged}
-use Rattle.hamming.specs.Syndrome.{syndromeOf}
+use Rattle.hamming.specs.Inner.{syndromeOf}
 use Rattle.hamming.proofs.Codes.{syn-lt}
-use Rattle.hamming.proofs.Laws.{placeBy, decodedBy, decoded-by}
-use Rattle.hamming.proofs.Flips.{or-use, away, mended-at}
+use Rattle.hamming.proofs.Laws.{placeBy, decodedBy, decoded-by, or-use, away, mended-at}
 
 -- the code's table: the bit that a syndrome from 16 on points at, as a mask
 abbrev pub flips : List ℕ
@@ -26,7 +25,7 @@ low-right : ℕ → Bool
 low-right s = eqb s 0 || eqb (placeBy s) 16
 
 abbrev pointed : ℕ → Bool
-pointed s = both (ltb (placeBy s) 16) (eqb (2 ^ placeBy s) (getD flips (s - 16) 0))
+pointed s = both (ltb (placeBy s) 16) (eqb (2 ^ placeBy s) (getD flips (s % 16) 0))
 
 high-right : ℕ → Bool
 high-right s = ltb s 16 || pointed s
@@ -49,12 +48,12 @@ at-low w h n l =
     away w s h refl (not-T (eqb s 0) (λ t. n (eqb→eq s 0 t)))
     ∙ ap (mended w) (eqb→eq (placeBy s) 16 (or-use (eqb s 0) (eqb (placeBy s) 16) (low-test s l) (λ t. n (eqb→eq s 0 t))))
 
-pub at-high : (w : ℕ) → w < 65536 → 16 ≤ syndromeOf w → decoded w ≡ says (dataOf (bitXor w (getD flips (syndromeOf w - 16) 0)))
+pub at-high : (w : ℕ) → w < 65536 → 16 ≤ syndromeOf w → decoded w ≡ says (dataOf (bitXor w (getD flips (syndromeOf w % 16) 0)))
 unfolding high-right
 at-high w h g =
     let s = syndromeOf w in
     let k = placeBy s in
     let t : T (pointed s) = or-use (ltb s 16) (pointed s) (high-test s (syn-lt w)) (λ q. not-le-of-lt (ltb→lt s 16 q) g) in
     away w s h refl (not-T (eqb s 0) (λ t. let e : s ≡ 0 = eqb→eq s 0 t in let x : 16 ≤ s = g in omega arith))
-    ∙ mended-at w k (ltb→lt k 16 (both-left (ltb k 16) (eqb (2 ^ k) (getD flips (s - 16) 0)) t))
-    ∙ ap (λ (m : ℕ). says (dataOf (bitXor w m))) (eqb→eq (2 ^ k) (getD flips (s - 16) 0) (both-right (ltb k 16) (eqb (2 ^ k) (getD flips (s - 16) 0)) t))
+    ∙ mended-at w k (ltb→lt k 16 (both-left (ltb k 16) (eqb (2 ^ k) (getD flips (s % 16) 0)) t))
+    ∙ ap (λ (m : ℕ). says (dataOf (bitXor w m))) (eqb→eq (2 ^ k) (getD flips (s % 16) 0) (both-right (ltb k 16) (eqb (2 ^ k) (getD flips (s % 16) 0)) t))

@@ -1,4 +1,4 @@
--- The chip word as document 01 has it, what the calls answer, and the syndrome that the code works with.
+-- The chip word as document 01 has it, and what the calls answer. Inner is for inner functions only.
 pub mod Word
 pub mod Answer
-pub mod Syndrome
+pub mod Inner

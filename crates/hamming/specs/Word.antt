@@ -19,9 +19,13 @@ withFour d = d + parity 0x055B d * 2 ^ 11 + parity 0x066D d * 2 ^ 12 + parity 0x
 unfoldable pub encoded : ℕ → ℕ
 encoded d = let w = withFour d in w + parity 0x7FFF w * 2 ^ 15
 
+-- data are 11 bits
+abbrev pub dataValues : ℕ
+dataValues = 2048
+
 -- the data bits of a word
 abbrev pub dataOf : ℕ → ℕ
-dataOf w = w % 2048
+dataOf w = w % dataValues
 
 -- a codeword is what its own data encode to
 unfoldable pub codeword : ℕ → Bool
@@ -51,6 +55,11 @@ decoded w = pick (codeword w) (says (dataOf w)) (mended w (place w))
 abbrev pub isSaid : Said → Bool
 isSaid (says d) = true
 isSaid damaged = false
+
+-- its data, 0 where it is damaged
+abbrev pub saidData : Said → ℕ
+saidData (says d) = d
+saidData damaged = 0
 
 unfoldable pub accepted : ℕ → Bool
 accepted w = isSaid (decoded w)

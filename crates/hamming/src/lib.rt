@@ -1,8 +1,8 @@
 // The chip word: data in bits 0 to 10, check bits P0 to P4 in bits 11 to 15. Encoding data, and checking and mending a word.
 ghost use mathlib.Core.Path.{_≡_};
 ghost use Prim.Native.Nat.{_<_};
-ghost use Rattle.hamming.specs.Word.{parity, encoded};
-ghost use Rattle.hamming.specs.Syndrome.{syndromeOf};
+ghost use Rattle.hamming.specs.Word.{parity, dataValues, encoded};
+ghost use Rattle.hamming.specs.Inner.{syndromeOf};
 ghost use Rattle.hamming.specs.Answer.{encodeAnswer, checkAnswer};
 use refusal::Refusal;
 
@@ -15,6 +15,9 @@ pub enum Checked {
     Data(u16),
     Refused(Refusal),
 }
+
+// Data are 11 bits.
+pub const DATA_VALUES: u16 = 2048;
 
 // The bit that a syndrome from 16 on points at, as a mask.
 const FLIP: [u16; 16] = [
@@ -45,7 +48,7 @@ fn odd(word: u16, mask: u16) -> u16
 
 // The codeword of 11 bits of data.
 fn with_checks(data: u16) -> u16
-    requires { ⌜ «data» < 2048 ⌝ }
+    requires { ⌜ «data» < dataValues ⌝ }
     ensures { λ r. ⌜ r ≡ encoded «data» ⌝ }
 {
     let p0 = odd(data, 0x055B);
@@ -73,7 +76,7 @@ fn syndrome(word: u16) -> usize
 pub fn encode(data: u16) -> Encoded
     ensures { λ r. ⌜ r ≡ encodeAnswer «data» ⌝ }
 {
-    if data <= 2047 {
+    if data < DATA_VALUES {
         Encoded::Word(with_checks(data))
     } else {
         Encoded::Refused(Refusal::DataTooLarge { data })
@@ -86,7 +89,7 @@ pub fn check(word: u16) -> Checked
 {
     let s = syndrome(word);
     if s == 0 {
-        return Checked::Data(word & 0x07FF);
+        return Checked::Data(word % DATA_VALUES);
     }
     if s < 16 {
         return Checked::Refused(Refusal::DamagedWord {
@@ -94,5 +97,5 @@ pub fn check(word: u16) -> Checked
             bits: word,
         });
     }
-    Checked::Data((word ^ FLIP[s - 16]) & 0x07FF)
+    Checked::Data((word ^ FLIP[s % 16]) % DATA_VALUES)
 }

@@ -3,6 +3,7 @@
 use eeprom::Subpage;
 use hamming::Encoded;
 use libc::STDOUT_FILENO;
+use offsets::Offset;
 use refusal::Verdict;
 
 // One byte more than a card.
@@ -38,9 +39,10 @@ fn tab_bits(x: f32) {
 
 fn line_start(label: &[u8], verdict: Verdict) {
     io::write_all(STDOUT_FILENO, label);
-    tab_number(verdict.number());
-    tab_number(verdict.place());
-    tab_number(verdict.value());
+    let told = verdict.told();
+    tab_number(told.number);
+    tab_number(told.place);
+    tab_number(told.value);
 }
 
 fn line_end() {
@@ -89,7 +91,7 @@ fn entries(table: u8, short: u8) -> usize {
     192
 }
 
-fn kept_whole(table: &[i16; 200]) -> u64 {
+fn kept_whole(table: &[Offset; 200]) -> u64 {
     let mut kept: u64 = 0;
     for i in 0..200usize {
         if table[i] == 77 {
@@ -111,8 +113,8 @@ fn kept_real(table: &[f32; 200]) -> u64 {
 
 // The first `size` bytes of an image, into tables of which `short` has 191 entries (6: all have 200).
 pub fn watched(label: &[u8], image: &Image, size: usize, short: u8) {
-    let mut offsets0 = [77i16; 200];
-    let mut offsets1 = [77i16; 200];
+    let mut offsets0: [Offset; 200] = [77; 200];
+    let mut offsets1: [Offset; 200] = [77; 200];
     let mut alpha = [77.0f32; 200];
     let mut k_v = [77.0f32; 200];
     let mut k_ta = [77.0f32; 200];
@@ -144,7 +146,7 @@ pub fn watched(label: &[u8], image: &Image, size: usize, short: u8) {
 
 // ---- Offsets: the answer, and the offset of an entry, which is 192 times the subpage plus the pixel
 
-fn entry_of(offsets0: &[i16; 192], offsets1: &[i16; 192], entry: usize) -> i16 {
+fn entry_of(offsets0: &[Offset; 192], offsets1: &[Offset; 192], entry: usize) -> i16 {
     if entry < 192 {
         return offsets0[entry];
     }
@@ -152,8 +154,8 @@ fn entry_of(offsets0: &[i16; 192], offsets1: &[i16; 192], entry: usize) -> i16 {
 }
 
 pub fn with_offset(label: &[u8], image: &Image, entry: usize) {
-    let mut offsets0 = [77i16; 192];
-    let mut offsets1 = [77i16; 192];
+    let mut offsets0: [Offset; 192] = [77; 192];
+    let mut offsets1: [Offset; 192] = [77; 192];
     let mut alpha = [77.0f32; 192];
     let mut k_v = [77.0f32; 192];
     let mut k_ta = [77.0f32; 192];
@@ -174,8 +176,8 @@ pub fn with_offset(label: &[u8], image: &Image, entry: usize) {
 // ---- Numbers: the answer, and the bits of alpha, K_V and K_Ta of a pixel and of the record's alpha_CP
 
 pub fn with_numbers(label: &[u8], image: &Image, pixel: usize) {
-    let mut offsets0 = [77i16; 192];
-    let mut offsets1 = [77i16; 192];
+    let mut offsets0: [Offset; 192] = [77; 192];
+    let mut offsets1: [Offset; 192] = [77; 192];
     let mut alpha = [77.0f32; 192];
     let mut k_v = [77.0f32; 192];
     let mut k_ta = [77.0f32; 192];
@@ -212,7 +214,7 @@ pub fn row(label: &[u8], image: &[u8], number: usize) {
     line_end();
 }
 
-pub fn subpage<'a>(label: &[u8], zero: &'a [i16], one: &'a [i16], which: Subpage) {
+pub fn subpage<'a>(label: &[u8], zero: &'a [Offset], one: &'a [Offset], which: Subpage) {
     let part = eeprom::subpage_offsets(zero, one, which);
     io::write_all(STDOUT_FILENO, label);
     let length = part.len();

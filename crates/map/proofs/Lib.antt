@@ -1,3 +1,4 @@
--- The laws that callers cite are in Counted; Spans leads to the code.
-pub mod Spans
+-- The laws that callers cite are in Words and Counted; Spans leads to the code.
+pub mod Words
 pub mod Counted
+pub mod Spans

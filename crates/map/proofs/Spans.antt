@@ -1,6 +1,6 @@
 -- A word within the k-th span of a rising map has that span's role. Assumes nothing.
 use Prim.Native.Nat.{ℕ, zero, suc, _+_, _≤_, _<_}
-use mathlib.Core.Path.{_≡_, refl, _∙_}
+use mathlib.Core.Path.{_≡_, refl, sym, ap, _∙_}
 use mathlib.Core.Bool.{Bool, true, false, _&&_, _||_}
 use mathlib.Core.List.{List, [], _∷_}
 use native.Mathlib.Nat.{le-trans, le-refl, add-zero, add-suc, suc-add}
@@ -11,7 +11,7 @@ use lib.Dec.{T, leb, eqb, leb→le}
 use borrow.Author.Tests.{lt-ltb, le-ltb, eqb-true}
 use Rattle.map.specs.declared.Role.{Role}
 use Rattle.map.specs.declared.Role.the-variants.{Unchecked}
-use Rattle.map.specs.Map.{Span, upto, lookup, spans, roleOf}
+use Rattle.map.specs.Map.{cardWords, Span, upto, lookup, spans, roleOf, isChecked, checked}
 
 -- where the k-th field starts, ends, and what it is, in a map that starts at lo
 abbrev pub start : ℕ → List Span → ℕ → ℕ
@@ -29,11 +29,11 @@ what [] k = Unchecked
 what (upto n r ∷ es) zero = r
 what (upto n r ∷ es) (suc k) = what es k
 
-both-left : (a b : Bool) → T (a && b) → T a
+pub both-left : (a b : Bool) → T (a && b) → T a
 both-left true b p = tt
 both-left false b p = p
 
-both-right : (a b : Bool) → T (a && b) → T b
+pub both-right : (a b : Bool) → T (a && b) → T b
 both-right true b p = p
 both-right false b p = absurd p
 
@@ -66,6 +66,10 @@ within k {w} a b = at 0 spans k w tt a b
 pub beyond : {w : ℕ} → 832 ≤ w → Unchecked ≡ roleOf w
 unfolding spans roleOf
 beyond {w} a = past 0 spans w tt a
+
+pub unchecked-past : (w : ℕ) → cardWords ≤ w → checked w ≡ false
+unfolding checked
+unchecked-past w h = ap isChecked (sym (beyond h))
 
 -- what a `match` leaves for its ranges: the word is none of its single numbers, the last of them first in ks
 abbrev pub Rest : List ℕ → ℕ → Type 0

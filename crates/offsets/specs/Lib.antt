@@ -1,2 +1,3 @@
--- Pixel offsets.
+-- Pixel offsets. Inner is for inner functions only.
 pub mod Offsets
+pub mod Inner

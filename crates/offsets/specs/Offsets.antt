@@ -1,42 +1,47 @@
--- Document 01: pixel offset = average + raw × 2^scale, over `w`, the data of a card's words by their numbers. Assumes nothing.
-use Prim.Native.Nat.{ℕ, _+_, _-_, _/_, _^_}
+-- Document 01: pixel offset = average + raw × 2^scale, over `w`, the data of a card's words by their numbers. `wordOf` is the map's.
+-- Assumes nothing.
+use Prim.Native.Nat.{ℕ, _+_, _-_, _*_, _/_, _^_}
 use mathlib.Core.Bool.{Bool, not, _&&_}
 use lib.Dec.{ltb}
 use lib.IntN.{ℤ, pos, _+ℤ_, _*ℤ_}
 use Rattle.lists.specs.Pick.{pick}
 use Rattle.lists.specs.First.{firstFrom}
-use Rattle.util.specs.Fields.{signed, offsetAverage, inI16}
-use Rattle.offsets.specs.declared.Scale.{Scale}
+use Rattle.util.specs.Fields.{signed, combined, inI16}
+use Rattle.map.specs.declared.Field.the-variants.{OffsetScale, OffsetAverage, Offset0, Offset1}
+use Rattle.map.specs.Map.{framePixels, wordOf}
 
 -- upper 6 bits
 unfoldable pub offsetScale : (ℕ → ℕ) → ℕ
-offsetScale w = w 16 / 2 ^ 5
+offsetScale w = w (wordOf OffsetScale 0) / 2 ^ 5
+
+-- combined, low 11 bits, signed
+unfoldable pub offsetAverage : ℕ → ℕ → ℤ
+offsetAverage upper lower = signed 11 (combined upper lower)
 
 unfoldable pub averageOf : (ℕ → ℕ) → ℤ
-averageOf w = offsetAverage (w 17) (w 18)
+averageOf w = offsetAverage (w (wordOf OffsetAverage 0)) (w (wordOf OffsetAverage 1))
 
--- both, as they are read
-unfoldable pub scaleOf : (ℕ → ℕ) → Scale
-scaleOf w = record { scale = offsetScale w; average = averageOf w }
+-- entry 192 × subpage + pixel: pixel by pixel of subpage 0, then of subpage 1
+abbrev pub entries : ℕ
+entries = 2 * framePixels
 
--- entry 192 × subpage + pixel: subpage 0 is words 64 to 255, subpage 1 words 640 to 831
-abbrev pub wordOf : ℕ → ℕ
-wordOf entry = pick (ltb entry 192) (64 + entry) (640 + (entry - 192))
+abbrev pub entryWord : ℕ → ℕ
+entryWord entry = pick (ltb entry framePixels) (wordOf Offset0 entry) (wordOf Offset1 (entry - framePixels))
 
 -- raw × 2^scale, the raw offset being 11 bits signed
-unfoldable pub scaledOf : ℕ → ℕ → ℤ
-scaledOf raw scale = signed 11 raw *ℤ pos (2 ^ scale)
+unfoldable pub productOf : ℕ → ℕ → ℤ
+productOf raw scale = signed 11 raw *ℤ pos (2 ^ scale)
 
-unfoldable pub scaledAt : (ℕ → ℕ) → ℕ → ℤ
-scaledAt w entry = scaledOf (w (wordOf entry)) (offsetScale w)
+unfoldable pub productAt : (ℕ → ℕ) → ℕ → ℤ
+productAt w entry = productOf (w (entryWord entry)) (offsetScale w)
 
 unfoldable pub offsetAt : (ℕ → ℕ) → ℕ → ℤ
-offsetAt w entry = averageOf w +ℤ scaledAt w entry
+offsetAt w entry = averageOf w +ℤ productAt w entry
 
 -- raw × 2^scale, or its sum with the average, is outside
 unfoldable pub outsideAt : (ℕ → ℕ) → ℕ → Bool
-outsideAt w entry = not (inI16 (scaledAt w entry) && inI16 (offsetAt w entry))
+outsideAt w entry = not (inI16 (productAt w entry) && inI16 (offsetAt w entry))
 
 -- the first such entry, or 384
 unfoldable pub firstOutside : (ℕ → ℕ) → ℕ
-firstOutside w = firstFrom (outsideAt w) 0 384
+firstOutside w = firstFrom (outsideAt w) 0 entries

@@ -6,46 +6,66 @@ ghost use lib.IntN.{_+ℤ_};
 ghost use lib.ListN.{length};
 ghost use lib.Signed.{mag};
 ghost use Rattle.lists.specs.Written.{filled};
-ghost use Rattle.card.specs.Cursor.{at};
-ghost use Rattle.offsets.specs.Offsets.{scaleOf, wordOf, scaledOf, scaledAt, outsideAt, firstOutside, offsetAt};
+ghost use Rattle.map.specs.Map.{cardWords, framePixels};
+ghost use Rattle.card.specs.Inner.{at};
+ghost use Rattle.offsets.specs.Offsets.{entries, offsetScale, offsetAverage, entryWord, productOf, productAt, outsideAt, firstOutside, offsetAt};
+ghost use Rattle.offsets.specs.Inner.{basisOf};
 use card::Cursor;
+use map::PIXELS;
+use map::Words;
 
 // The type of a pixel's offset.
 pub type Offset = i16;
 
-// What words 16 to 18 hold.
-pub struct Scale {
+// The offsets of both subpages.
+pub const ENTRIES: usize = 384;
+
+// What all pixels' offsets share, words 16 to 18.
+pub struct Basis {
     pub scale: u16,
     pub average: i16,
 }
 
-// The offset scale and the average of all offsets.
-pub fn read_scale(words: &[u16; 832]) -> Scale
-    ensures { λ r. ⌜ r ≡ scaleOf (at (now (words .entry))) ⌝ }
+// The average of all pixel offsets, from its two words.
+fn offset_average(upper: u16, lower: u16) -> i16
+    ensures { λ r. ⌜ r ≡ offsetAverage upper lower ⌝ }
 {
-    let start = Cursor { word: 16 };
-    let scale = start.parts(words, 5);
-    let c1 = scale.next;
-    let upper = c1.plain(words);
-    let c2 = upper.next;
-    let lower = c2.plain(words);
-    let parts = scale.value;
-    Scale {
-        scale: parts.upper,
-        average: util::offset_average(upper.value, lower.value),
+    util::i16_from_bits(util::combine(upper, lower), 11)
+}
+
+fn read_basis(words: &Words) -> Basis
+    ensures { λ r. ⌜ r ≡ basisOf (at (now (words .entry))) ⌝ }
+{
+    let scale = Cursor {
+        word: map::OFFSET_SCALE,
+    }.split(words, 5);
+    let upper = scale.next.plain(words);
+    let lower = upper.next.plain(words);
+    let pair = scale.value;
+    Basis {
+        scale: pair.upper,
+        average: offset_average(upper.value, lower.value),
     }
 }
 
+// The offset scale.
+pub fn offset_scale(words: &Words) -> u16
+    ensures { λ r. ⌜ r ≡ offsetScale (at (now (words .entry))) ⌝ }
+{
+    let basis = read_basis(words);
+    basis.scale
+}
+
 // A raw offset, which is 11 bits signed, times 2^scale.
-fn scaled(raw: u16, scale: u16) -> i32
+fn product(raw: u16, scale: u16) -> i32
     requires { ⌜ scale < 15 ⌝ }
-    ensures { λ r. ⌜ r ≡ scaledOf raw scale ⌝ }
+    ensures { λ r. ⌜ r ≡ productOf raw scale ⌝ }
 {
     let raw = util::i16_from_bits(util::wide(raw), 11);
     raw as i32 * (1i32 << scale)
 }
 
-// The sum of the average and the scaled part.
+// The sum of the average and a product.
 fn sum(average: i16, part: i32) -> i32
     requires { ⌜ mag part ≤ 16777216 ⌝ }
     ensures { λ r. ⌜ r ≡ average +ℤ part ⌝ }
@@ -54,50 +74,51 @@ fn sum(average: i16, part: i32) -> i32
 }
 
 // The word of an entry, which is 192 times the subpage plus the pixel.
-fn word_of(entry: usize) -> usize
-    requires { ⌜ entry < 384 ⌝ }
-    ensures { λ r. ⌜ (r ≡ wordOf entry) × (r < 832) ⌝ }
+fn entry_word(entry: usize) -> usize
+    requires { ⌜ entry < entries ⌝ }
+    ensures { λ r. ⌜ (r ≡ entryWord entry) × (r < cardWords) ⌝ }
 {
-    if entry < 192 {
-        64 + entry
+    if entry < PIXELS {
+        map::OFFSET_0 + entry
     } else {
-        640 + (entry - 192)
+        map::OFFSET_1 + (entry - PIXELS)
     }
 }
 
 // An entry's raw × 2^scale.
-fn part_at(words: &[u16; 832], scale: Scale, entry: usize) -> i32
-    requires { ⌜ (entry < 384) × (scale ≡ scaleOf (at (now words))) × (scale .scale < 15) ⌝ }
-    ensures { λ r. ⌜ (r ≡ scaledAt (at (now (words .entry))) entry) × (mag r ≤ 16777216) ⌝ }
+fn product_at(words: &Words, basis: Basis, entry: usize) -> i32
+    requires { ⌜ (entry < entries) × (basis ≡ basisOf (at (now words))) × (basis .scale < 15) ⌝ }
+    ensures { λ r. ⌜ (r ≡ productAt (at (now (words .entry))) entry) × (mag r ≤ 16777216) ⌝ }
 {
-    let word = word_of(entry);
-    scaled(words[word], scale.scale)
+    let word = entry_word(entry);
+    product(words[word], basis.scale)
 }
 
-// Whether an entry's offset, or its part before the average, is one that the type does not hold.
-fn outside(words: &[u16; 832], scale: Scale, entry: usize) -> bool
-    requires { ⌜ (entry < 384) × (scale ≡ scaleOf (at (now words))) × (scale .scale < 15) ⌝ }
+// Whether an entry's offset, or its product before the average, is one that the type does not hold.
+fn outside(words: &Words, basis: Basis, entry: usize) -> bool
+    requires { ⌜ (entry < entries) × (basis ≡ basisOf (at (now words))) × (basis .scale < 15) ⌝ }
     ensures { λ r. ⌜ r ≡ outsideAt (at (now (words .entry))) entry ⌝ }
 {
-    let part = part_at(words, scale, entry);
+    let part = product_at(words, basis, entry);
     if util::fits_i16(part) {
-        !util::fits_i16(sum(scale.average, part))
+        !util::fits_i16(sum(basis.average, part))
     } else {
         true
     }
 }
 
 // The first entry whose offset is outside, or 384.
-pub fn first_outside(words: &[u16; 832], scale: Scale) -> usize
-    requires { ⌜ (scale ≡ scaleOf (at (now words))) × (scale .scale < 15) ⌝ }
+pub fn first_outside(words: &Words) -> usize
+    requires { ⌜ offsetScale (at (now words)) < 15 ⌝ }
     ensures { λ r. ⌜ r ≡ firstOutside (at (now (words .entry))) ⌝ }
 {
+    let basis = read_basis(words);
     let mut entry: usize = 0;
     let place = loop {
-        if entry == 384 {
-            break 384;
+        if entry == ENTRIES {
+            break ENTRIES;
         }
-        if outside(words, scale, entry) {
+        if outside(words, basis, entry) {
             break entry;
         }
         entry += 1;
@@ -106,21 +127,21 @@ pub fn first_outside(words: &[u16; 832], scale: Scale) -> usize
 }
 
 // The offset of an entry that is not outside.
-fn offset_at(words: &[u16; 832], scale: Scale, entry: usize) -> Offset
-    requires { ⌜ (entry < 384) × (scale ≡ scaleOf (at (now words))) × (scale .scale < 15) × (outsideAt (at (now words)) entry ≡ false) ⌝ }
+fn offset_at(words: &Words, basis: Basis, entry: usize) -> Offset
+    requires { ⌜ (entry < entries) × (basis ≡ basisOf (at (now words))) × (basis .scale < 15) × (outsideAt (at (now words)) entry ≡ false) ⌝ }
     ensures { λ r. ⌜ r ≡ offsetAt (at (now (words .entry))) entry ⌝ }
 {
-    sum(scale.average, part_at(words, scale, entry)) as Offset
+    sum(basis.average, product_at(words, basis, entry)) as Offset
 }
 
 // A subpage's offsets, from its first entry on, into the start of a table.
-pub fn fill_offsets(words: &[u16; 832], scale: Scale, first: usize, table: &mut [Offset])
-    requires { ⌜ (scale ≡ scaleOf (at (now words))) × (scale .scale < 15) ⌝ }
-    requires { ⌜ ((k : ℕ) → k < 384 → outsideAt (at (now words)) k ≡ false) ⌝ }
-    requires { ⌜ (first ≤ 192) × (192 ≤ length (now table)) ⌝ }
-    ensures { λ _. ⌜ now (table .exit) ≡ filled (λ k. offsetAt (at (now (words .entry))) (first + k)) 192 (now (table .entry)) ⌝ }
+pub fn fill_offsets(words: &Words, first: usize, table: &mut [Offset])
+    requires { ⌜ (offsetScale (at (now words)) < 15) × ((k : ℕ) → k < entries → outsideAt (at (now words)) k ≡ false) ⌝ }
+    requires { ⌜ (first ≤ framePixels) × (framePixels ≤ length (now table)) ⌝ }
+    ensures { λ _. ⌜ now (table .exit) ≡ filled (λ k. offsetAt (at (now (words .entry))) (first + k)) framePixels (now (table .entry)) ⌝ }
 {
-    for i in 0..192usize {
-        table[i] = offset_at(words, scale, first + i);
+    let basis = read_basis(words);
+    for i in 0..PIXELS {
+        table[i] = offset_at(words, basis, first + i);
     }
 }

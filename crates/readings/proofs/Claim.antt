@@ -3,7 +3,8 @@ use mathlib.Core.Path.{refl}
 use lib.Count.{onesIn}
 use Rattle.lists.specs.All.{All, none, _also_}
 use Rattle.lists.specs.First.{firstFrom}
-use Rattle.util.specs.Fields.{signed, offsetAverage}
+use Rattle.util.specs.Fields.{signed}
+use Rattle.offsets.specs.Offsets.{offsetAverage}
 use Rattle.hamming.specs.Word.{parity, withFour, encoded, codeword, place, decoded}
 use Rattle.root.proofs.Readings.{root-of-81}
 use Rattle.readings.specs.Readings.{Holds, readings}

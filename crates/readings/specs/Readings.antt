@@ -2,11 +2,12 @@
 use Prim.Native.Nat.{ℕ}
 use mathlib.Core.Path.{_≡_}
 use mathlib.Core.List.{List, [], _∷_}
-use lib.IntN.{ℤ, pos, negsuc}
-use Rattle.floats.specs.Floats.{whole}
-use Rattle.util.specs.Fields.{signed, combined, offsetAverage}
+use lib.IntN.{ℤ, pos}
+use Rattle.floats.specs.Floats.{real}
+use Rattle.util.specs.Fields.{minus, signed, combined}
 use Rattle.hamming.specs.Word.{encoded, decoded, says, damaged}
 use Rattle.root.specs.Root.{root}
+use Rattle.offsets.specs.Offsets.{offsetAverage}
 
 pub data Reading : Type 0 where
   encodes : ℕ → ℕ → Reading
@@ -25,9 +26,8 @@ Holds (isDamaged w) = decoded w ≡ damaged
 Holds (combines upper lower n) = combined upper lower ≡ n
 Holds (isSigned width n z) = signed width n ≡ z
 Holds (averages upper lower z) = offsetAverage upper lower ≡ z
-Holds (roots x r) = root (whole (pos x)) ≡ whole (pos r)
+Holds (roots x r) = root (real (pos x)) ≡ real (pos r)
 
--- -1024 is -1 - 1023
 abbrev pub readings : List Reading
 readings =
     encodes 0x001 0x9801
@@ -39,8 +39,8 @@ readings =
     ∷ isDamaged 0x0003
     ∷ decodes 0x0007 7
     ∷ combines 1 0x020 32
-    ∷ isSigned 11 0x400 (negsuc 1023)
+    ∷ isSigned 11 0x400 (minus 1024)
     ∷ isSigned 11 0x3FF (pos 1023)
-    ∷ averages 0x020 0 (negsuc 1023)
+    ∷ averages 0x020 0 (minus 1024)
     ∷ roots 81 3
     ∷ []

@@ -1,2 +1,3 @@
--- The numbered refusals.
+-- The numbered refusals, and their order.
 pub mod Refusal
+pub mod Order

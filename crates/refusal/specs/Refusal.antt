@@ -1,55 +1,29 @@
 -- Document 01, "When the gate says stop": number, place and value of each refusal, row by row. Assumes nothing.
 use Prim.Native.Nat.{ℕ}
+use Rattle.refusal.specs.declared.Told.{Told}
 use Rattle.refusal.specs.declared.Refusal.{Refusal}
-use Rattle.refusal.specs.declared.Refusal.the-variants.{ShortImage, ShortTable, DamagedWord, OffsetScale, OffsetRange, BasicRange, SupplyRange, ZeroDivisor, DataTooLarge}
+use Rattle.refusal.specs.declared.Refusal.the-variants.{ShortImage, ShortTable, DamagedWord, LargeScale, OffsetRange, BasicRange, SupplyRange, ZeroDivisor, DataTooLarge}
 use Rattle.refusal.specs.declared.Verdict.{Verdict}
 use Rattle.refusal.specs.declared.Verdict.the-variants.{Pass, Refused}
 
-abbrev pub numberOf : Refusal → ℕ
-numberOf (ShortImage length) = 1
-numberOf ShortTable = 2
-numberOf (DamagedWord word bits) = 3
-numberOf (OffsetScale scale) = 4
-numberOf (OffsetRange entry) = 5
-numberOf (BasicRange range) = 6
-numberOf SupplyRange = 7
-numberOf ZeroDivisor = 8
-numberOf (DataTooLarge given) = 9
+abbrev pub says : ℕ → ℕ → ℕ → Told
+says number place value = record { number = number; place = place; value = value }
 
-abbrev pub placeOf : Refusal → ℕ
-placeOf (ShortImage length) = length
-placeOf ShortTable = 0
-placeOf (DamagedWord word bits) = word
-placeOf (OffsetScale scale) = scale
-placeOf (OffsetRange entry) = entry
-placeOf (BasicRange range) = range
-placeOf SupplyRange = 0
-placeOf ZeroDivisor = 0
-placeOf (DataTooLarge given) = given
-
-abbrev pub valueOf : Refusal → ℕ
-valueOf (ShortImage length) = 0
-valueOf ShortTable = 0
-valueOf (DamagedWord word bits) = bits
-valueOf (OffsetScale scale) = 0
-valueOf (OffsetRange entry) = 0
-valueOf (BasicRange range) = 0
-valueOf SupplyRange = 0
-valueOf ZeroDivisor = 0
-valueOf (DataTooLarge given) = 0
+abbrev pub toldOf : Refusal → Told
+toldOf (ShortImage length) = says 1 length 0
+toldOf ShortTable = says 2 0 0
+toldOf (DamagedWord word bits) = says 3 word bits
+toldOf (LargeScale scale) = says 4 scale 0
+toldOf (OffsetRange entry) = says 5 entry 0
+toldOf (BasicRange range) = says 6 range 0
+toldOf SupplyRange = says 7 0 0
+toldOf ZeroDivisor = says 8 0 0
+toldOf (DataTooLarge given) = says 9 given 0
 
 -- of a verdict: 0, 0, 0 where nothing is refused
-abbrev pub verdictNumber : Verdict → ℕ
-verdictNumber Pass = 0
-verdictNumber (Refused refusal) = numberOf refusal
-
-abbrev pub verdictPlace : Verdict → ℕ
-verdictPlace Pass = 0
-verdictPlace (Refused refusal) = placeOf refusal
-
-abbrev pub verdictValue : Verdict → ℕ
-verdictValue Pass = 0
-verdictValue (Refused refusal) = valueOf refusal
+abbrev pub verdictTold : Verdict → Told
+verdictTold Pass = says 0 0 0
+verdictTold (Refused refusal) = toldOf refusal
 
 -- a refusal leaves the old
 abbrev pub unless : {A : Type 0} → Verdict → A → A → A

@@ -1,6 +1,6 @@
 // The numbered refusals: what stops a call, and where. A call that answers one has changed nothing.
 ghost use mathlib.Core.Path.{_≡_};
-ghost use Rattle.refusal.specs.Refusal.{numberOf, placeOf, valueOf, verdictNumber, verdictPlace, verdictValue};
+ghost use Rattle.refusal.specs.Refusal.{says, toldOf, verdictTold, unless};
 
 pub enum Refusal {
     // 1: the image is shorter than a card.
@@ -10,7 +10,7 @@ pub enum Refusal {
     // 3: a checked word is neither a codeword nor one flip away from one.
     DamagedWord { word: usize, bits: u16 },
     // 4: the offset scale is 15 or more.
-    OffsetScale { scale: u16 },
+    LargeScale { scale: u16 },
     // 5: a pixel's offset leaves its type. Entry is 192 times the subpage plus the pixel.
     OffsetRange { entry: usize },
     // 6: there is no such temperature range.
@@ -23,55 +23,37 @@ pub enum Refusal {
     DataTooLarge { data: u16 },
 }
 
+// What a refusal says: its number, its place (where, or how much) and its value; 0 where there is nothing to say.
+pub struct Told {
+    pub number: u64,
+    pub place: u64,
+    pub value: u64,
+}
+
+fn said(number: u64, place: u64, value: u64) -> Told
+    ensures { λ r. ⌜ r ≡ says number place value ⌝ }
+{
+    Told {
+        number,
+        place,
+        value,
+    }
+}
+
 impl Refusal {
-    // Its number, 1 to 9.
-    pub fn number(self) -> u64
-        ensures { λ r. ⌜ r ≡ numberOf self ⌝ }
+    pub fn told(self) -> Told
+        ensures { λ r. ⌜ r ≡ toldOf self ⌝ }
     {
         match self {
-            Refusal::ShortImage { length: _ } => 1,
-            Refusal::ShortTable => 2,
-            Refusal::DamagedWord { word: _, bits: _ } => 3,
-            Refusal::OffsetScale { scale: _ } => 4,
-            Refusal::OffsetRange { entry: _ } => 5,
-            Refusal::BasicRange { range: _ } => 6,
-            Refusal::SupplyRange => 7,
-            Refusal::ZeroDivisor => 8,
-            Refusal::DataTooLarge { data: _ } => 9,
-        }
-    }
-
-    // Its place: where, or how much, 0 where there is nothing to say.
-    pub fn place(self) -> u64
-        ensures { λ r. ⌜ r ≡ placeOf self ⌝ }
-    {
-        match self {
-            Refusal::ShortImage { length } => length as u64,
-            Refusal::ShortTable => 0,
-            Refusal::DamagedWord { word, bits: _ } => word as u64,
-            Refusal::OffsetScale { scale } => scale as u64,
-            Refusal::OffsetRange { entry } => entry as u64,
-            Refusal::BasicRange { range } => range as u64,
-            Refusal::SupplyRange => 0,
-            Refusal::ZeroDivisor => 0,
-            Refusal::DataTooLarge { data } => data as u64,
-        }
-    }
-
-    // Its value: the bits of a damaged word, else 0.
-    pub fn value(self) -> u64
-        ensures { λ r. ⌜ r ≡ valueOf self ⌝ }
-    {
-        match self {
-            Refusal::ShortImage { length: _ } => 0,
-            Refusal::ShortTable => 0,
-            Refusal::DamagedWord { word: _, bits } => bits as u64,
-            Refusal::OffsetScale { scale: _ } => 0,
-            Refusal::OffsetRange { entry: _ } => 0,
-            Refusal::BasicRange { range: _ } => 0,
-            Refusal::SupplyRange => 0,
-            Refusal::ZeroDivisor => 0,
-            Refusal::DataTooLarge { data: _ } => 0,
+            Refusal::ShortImage { length } => said(1, length as u64, 0),
+            Refusal::ShortTable => said(2, 0, 0),
+            Refusal::DamagedWord { word, bits } => said(3, word as u64, bits as u64),
+            Refusal::LargeScale { scale } => said(4, scale as u64, 0),
+            Refusal::OffsetRange { entry } => said(5, entry as u64, 0),
+            Refusal::BasicRange { range } => said(6, range as u64, 0),
+            Refusal::SupplyRange => said(7, 0, 0),
+            Refusal::ZeroDivisor => said(8, 0, 0),
+            Refusal::DataTooLarge { data } => said(9, data as u64, 0),
         }
     }
 }
@@ -83,33 +65,23 @@ pub enum Verdict {
 }
 
 impl Verdict {
-    // The refusal's number, 0 for none.
-    pub fn number(self) -> u64
-        ensures { λ r. ⌜ r ≡ verdictNumber self ⌝ }
+    // What its refusal says; 0, 0, 0 for none.
+    pub fn told(self) -> Told
+        ensures { λ r. ⌜ r ≡ verdictTold self ⌝ }
     {
         match self {
-            Verdict::Pass => 0,
-            Verdict::Refused(refusal) => refusal.number(),
+            Verdict::Pass => said(0, 0, 0),
+            Verdict::Refused(refusal) => refusal.told(),
         }
     }
 
-    // The refusal's place, 0 for none.
-    pub fn place(self) -> u64
-        ensures { λ r. ⌜ r ≡ verdictPlace self ⌝ }
+    // This refusal, or what is tested after it.
+    pub fn then(self, after: Verdict) -> Verdict
+        ensures { λ r. ⌜ r ≡ unless self after self ⌝ }
     {
         match self {
-            Verdict::Pass => 0,
-            Verdict::Refused(refusal) => refusal.place(),
-        }
-    }
-
-    // The refusal's value, 0 for none.
-    pub fn value(self) -> u64
-        ensures { λ r. ⌜ r ≡ verdictValue self ⌝ }
-    {
-        match self {
-            Verdict::Pass => 0,
-            Verdict::Refused(refusal) => refusal.value(),
+            Verdict::Pass => after,
+            Verdict::Refused(_) => self,
         }
     }
 }

@@ -20,6 +20,7 @@
 //      their answers, 20 bytes each: number, place, value, t_a, lost. 120 pixels, 520 mask. Destinations of 200 entries: 720 before
 //      the first and third call, 1,520 after the first, 2,320 before the second, 3,120 after it, 3,920 after the third.
 use libc::STDOUT_FILENO;
+use offsets::Offset;
 
 struct Tally {
     words: u64,
@@ -105,8 +106,8 @@ impl Tally {
 fn replay(most: u64) -> Tally {
     let mut tally = no_tally();
     let mut record = calibration::no_calibration();
-    let mut offsets0 = [77i16; 200];
-    let mut offsets1 = [77i16; 200];
+    let mut offsets0: [Offset; 200] = [77; 200];
+    let mut offsets1: [Offset; 200] = [77; 200];
     let mut alpha = [77.0f32; 200];
     let mut k_v = [77.0f32; 200];
     let mut k_ta = [77.0f32; 200];

@@ -2,14 +2,15 @@
 use calibration::Calibration;
 use calibration::Gradient;
 use eeprom::Loaded;
+use offsets::Offset;
 use refusal::Verdict;
 
 // All five tables are filled with 77, and the parts that are to be lent are loaded into.
 pub fn load(
     head: &[u8],
     block: &[u8],
-    offsets0: &mut [i16; 200],
-    offsets1: &mut [i16; 200],
+    offsets0: &mut [Offset; 200],
+    offsets1: &mut [Offset; 200],
     alpha: &mut [f32; 200],
     k_v: &mut [f32; 200],
     k_ta: &mut [f32; 200],
@@ -31,14 +32,14 @@ pub fn load(
 }
 
 fn verdict_same(head: &[u8], verdict: Verdict) -> bool {
-    stored::verdict_is(head, verdict.number(), verdict.place(), verdict.value())
+    stored::verdict_is(head, verdict.told())
 }
 
 // Whether every entry from a place on is as before the load.
 fn kept(
     from: usize,
-    offsets0: &[i16],
-    offsets1: &[i16],
+    offsets0: &[Offset],
+    offsets1: &[Offset],
     alpha: &[f32],
     k_v: &[f32],
     k_ta: &[f32],
@@ -53,8 +54,8 @@ fn kept(
 // The five tables of an answer stand behind its record.
 fn tables_same(
     answer: &[u8],
-    offsets0: &[i16],
-    offsets1: &[i16],
+    offsets0: &[Offset],
+    offsets1: &[Offset],
     alpha: &[f32],
     k_v: &[f32],
     k_ta: &[f32],
@@ -164,8 +165,8 @@ pub fn good_differs(
     head: &[u8],
     answer: &[u8],
     loaded: Loaded,
-    offsets0: &[i16],
-    offsets1: &[i16],
+    offsets0: &[Offset],
+    offsets1: &[Offset],
     alpha: &[f32],
     k_v: &[f32],
     k_ta: &[f32],
@@ -191,8 +192,8 @@ pub fn good_differs(
 pub fn refused_differs(
     head: &[u8],
     loaded: Loaded,
-    offsets0: &[i16],
-    offsets1: &[i16],
+    offsets0: &[Offset],
+    offsets1: &[Offset],
     alpha: &[f32],
     k_v: &[f32],
     k_ta: &[f32],

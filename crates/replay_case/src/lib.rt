@@ -4,6 +4,7 @@ mod words;
 
 use calibration::Calibration;
 use libc::STDIN_FILENO;
+use offsets::Offset;
 
 // What a case counts as.
 pub const NOTHING: u8 = 0;
@@ -46,8 +47,8 @@ fn counted(counts: u8, differs: u8, record: Calibration) -> Case {
 // A card that loads, and behind it the record and the tables that it must give.
 fn good_card(
     head: &[u8; 16],
-    offsets0: &mut [i16; 200],
-    offsets1: &mut [i16; 200],
+    offsets0: &mut [Offset; 200],
+    offsets1: &mut [Offset; 200],
     alpha: &mut [f32; 200],
     k_v: &mut [f32; 200],
     k_ta: &mut [f32; 200],
@@ -80,8 +81,8 @@ fn good_card(
 // A card that is refused.
 fn refused_card(
     head: &[u8; 16],
-    offsets0: &mut [i16; 200],
-    offsets1: &mut [i16; 200],
+    offsets0: &mut [Offset; 200],
+    offsets1: &mut [Offset; 200],
     alpha: &mut [f32; 200],
     k_v: &mut [f32; 200],
     k_ta: &mut [f32; 200],
@@ -110,8 +111,8 @@ fn record_of_frames(record: Calibration) -> Case {
 // Tables for the frames that follow.
 fn tables_of_frames(
     record: Calibration,
-    offsets0: &mut [i16; 200],
-    offsets1: &mut [i16; 200],
+    offsets0: &mut [Offset; 200],
+    offsets1: &mut [Offset; 200],
     alpha: &mut [f32; 200],
     k_v: &mut [f32; 200],
     k_ta: &mut [f32; 200],
@@ -132,8 +133,8 @@ fn tables_of_frames(
 // A frame, on the record and the tables that stand.
 fn frame<'a>(
     record: Calibration,
-    offsets0: &'a [i16; 200],
-    offsets1: &'a [i16; 200],
+    offsets0: &'a [Offset; 200],
+    offsets1: &'a [Offset; 200],
     alpha: &[f32; 200],
     k_v: &[f32; 200],
     k_ta: &[f32; 200],
@@ -150,8 +151,8 @@ fn frame<'a>(
 // One case more.
 pub fn next_case(
     record: Calibration,
-    offsets0: &mut [i16; 200],
-    offsets1: &mut [i16; 200],
+    offsets0: &mut [Offset; 200],
+    offsets1: &mut [Offset; 200],
     alpha: &mut [f32; 200],
     k_v: &mut [f32; 200],
     k_ta: &mut [f32; 200],

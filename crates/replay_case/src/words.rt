@@ -2,15 +2,17 @@
 use hamming::Checked;
 use hamming::Encoded;
 use refusal::Refusal;
+use refusal::Verdict;
 
 // Whether a refusal is the one stored.
 fn refused_so(head: &[u8], refusal: Refusal) -> bool {
-    stored::verdict_is(head, refusal.number(), refusal.place(), refusal.value())
+    stored::verdict_is(head, refusal.told())
 }
 
 // Whether an answer is the one stored.
 fn answered_so(head: &[u8], answer: u16) -> bool {
-    if !stored::verdict_is(head, 0, 0, 0) {
+    let good = Verdict::Pass;
+    if !stored::verdict_is(head, good.told()) {
         return false;
     }
     stored::half_at(head, 4) == answer

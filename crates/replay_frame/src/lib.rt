@@ -5,6 +5,7 @@ use eeprom::Subpage;
 use formulas::RamData;
 use formulas::Reflected;
 use formulas::Supply;
+use offsets::Offset;
 
 // ---- What a call takes
 
@@ -60,8 +61,8 @@ fn mask_of(block: &[u8]) -> &[u8] {
 fn infrared<'a>(
     block: &[u8],
     record: Calibration,
-    offsets0: &'a [i16],
-    offsets1: &'a [i16],
+    offsets0: &'a [Offset],
+    offsets1: &'a [Offset],
     k_v: &[f32],
     k_ta: &[f32],
     destination: &mut [u32],
@@ -105,8 +106,8 @@ fn temperatures(
 fn one_pass<'a>(
     block: &[u8],
     record: Calibration,
-    offsets0: &'a [i16],
-    offsets1: &'a [i16],
+    offsets0: &'a [Offset],
+    offsets1: &'a [Offset],
     alpha: &[f32],
     k_v: &[f32],
     k_ta: &[f32],
@@ -156,13 +157,16 @@ fn answer_of(frame: Frame) -> Answer {
             t_a,
             lost: lost as u64,
         },
-        Frame::Refused(refusal) => Answer {
-            number: refusal.number(),
-            place: refusal.place(),
-            value: refusal.value(),
-            t_a: 0,
-            lost: 0,
-        },
+        Frame::Refused(refusal) => {
+            let told = refusal.told();
+            Answer {
+                number: told.number,
+                place: told.place,
+                value: told.value,
+                t_a: 0,
+                lost: 0,
+            }
+        }
     }
 }
 
@@ -179,8 +183,8 @@ fn answer_same(stored: &[u8], frame: Frame) -> bool {
 fn infrared_same<'a>(
     block: &[u8],
     record: Calibration,
-    offsets0: &'a [i16],
-    offsets1: &'a [i16],
+    offsets0: &'a [Offset],
+    offsets1: &'a [Offset],
     k_v: &[f32],
     k_ta: &[f32],
 ) -> bool {
@@ -208,8 +212,8 @@ fn temperatures_same(block: &[u8], record: Calibration, alpha: &[f32]) -> bool {
 fn one_pass_same<'a>(
     block: &[u8],
     record: Calibration,
-    offsets0: &'a [i16],
-    offsets1: &'a [i16],
+    offsets0: &'a [Offset],
+    offsets1: &'a [Offset],
     alpha: &[f32],
     k_v: &[f32],
     k_ta: &[f32],
@@ -233,8 +237,8 @@ fn one_pass_same<'a>(
 pub fn differs<'a>(
     block: &[u8],
     record: Calibration,
-    offsets0: &'a [i16],
-    offsets1: &'a [i16],
+    offsets0: &'a [Offset],
+    offsets1: &'a [Offset],
     alpha: &[f32],
     k_v: &[f32],
     k_ta: &[f32],

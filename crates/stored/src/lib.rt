@@ -1,6 +1,8 @@
 // What the programs over cards and frames share: what a case of a stored stream may differ in, numbers in a block of bytes, parts of tables
 // and of images, and tables beside a block.
 use eeprom::Loaded;
+use offsets::Offset;
+use refusal::Told;
 
 // What a case may differ in.
 pub const AGREES: u8 = 0;
@@ -56,19 +58,19 @@ pub fn size_at(block: &[u8], at: usize) -> usize {
 }
 
 // A verdict of a head: number at 8, place at 12, value at 6.
-pub fn verdict_is(head: &[u8], number: u64, place: u64, value: u64) -> bool {
-    if word_at(head, 8) as u64 != number {
+pub fn verdict_is(head: &[u8], told: Told) -> bool {
+    if word_at(head, 8) as u64 != told.number {
         return false;
     }
-    if word_at(head, 12) as u64 != place {
+    if word_at(head, 12) as u64 != told.place {
         return false;
     }
-    half_at(head, 6) as u64 == value
+    half_at(head, 6) as u64 == told.value
 }
 
 // ---- Parts of at most so many entries
 
-pub fn wholes(table: &[i16], n: usize) -> &[i16] {
+pub fn wholes(table: &[Offset], n: usize) -> &[Offset] {
     let end = util::least(n, table.len());
     &table[..end]
 }
@@ -90,8 +92,8 @@ pub fn bytes(block: &[u8], from: usize, n: usize) -> &[u8] {
 pub fn load_parts(
     image: &[u8],
     lengths: [usize; 5],
-    offsets0: &mut [i16],
-    offsets1: &mut [i16],
+    offsets0: &mut [Offset],
+    offsets1: &mut [Offset],
     alpha: &mut [f32],
     k_v: &mut [f32],
     k_ta: &mut [f32],
@@ -113,7 +115,7 @@ pub fn load_parts(
 
 // ---- Whether a table has the entries that are stored from a place on
 
-pub fn wholes_same(block: &[u8], from: usize, table: &[i16]) -> bool {
+pub fn wholes_same(block: &[u8], from: usize, table: &[Offset]) -> bool {
     let mut at = from;
     let mut i = 0;
     while i < table.len() {
@@ -154,7 +156,7 @@ pub fn words_same(block: &[u8], from: usize, list: &[u32]) -> bool {
 
 // ---- Whether every entry from a place on is 77
 
-pub fn wholes_kept(table: &[i16], from: usize) -> bool {
+pub fn wholes_kept(table: &[Offset], from: usize) -> bool {
     let mut i = from;
     while i < table.len() {
         if table[i] != 77 {
@@ -178,7 +180,7 @@ pub fn reals_kept(table: &[f32], from: usize) -> bool {
 
 // ---- Tables from a block: their first 192 entries, or a destination's 200
 
-pub fn wholes_into(block: &[u8], from: usize, table: &mut [i16; 200]) {
+pub fn wholes_into(block: &[u8], from: usize, table: &mut [Offset; 200]) {
     let mut at = from;
     for i in 0..192usize {
         table[i] = whole_at(block, at);

@@ -1,2 +1,3 @@
--- Sensitivities and coefficients.
+-- Sensitivities and coefficients. Inner is for inner functions only.
 pub mod Tables
+pub mod Inner

@@ -1,60 +1,61 @@
 -- Document 01: alpha = (raw / 2047) × (row maximum / 2^row scale), 32 pixels to a row, and K = (raw × 2^scale2 + average) / 2^scale1, over
--- `w`, the data of a card's words by their numbers. Each float step is rounded once. Assumes nothing.
+-- `w`, the data of a card's words by their numbers. `wordOf` is the map's. Each float step is rounded once. Assumes nothing.
 use Prim.Native.Nat.{ℕ, _+_, _/_, _%_, _^_}
-use mathlib.Core.List.{List, [], _∷_}
 use lib.Dec.{eqb}
 use lib.IntN.{ℤ, pos}
 use lib.Ieee.{Float}
 use Rattle.lists.specs.Pick.{pick}
-use Rattle.floats.specs.Floats.{_⊕_, _⊗_, _⊘_, whole, powerOfTwo, over}
+use Rattle.floats.specs.Floats.{_⊕_, _⊗_, _⊘_, real, powerOfTwo, over}
 use Rattle.floats.specs.Constants.{alphaFull}
 use Rattle.util.specs.Fields.{signed}
-use Rattle.tables.specs.declared.Coefficient.{Coefficient}
-use Rattle.tables.specs.declared.Coefficient.the-variants.{KTa, KV}
-use Rattle.tables.specs.declared.KScale.{KScale}
+use Rattle.map.specs.declared.Field.{Field}
+use Rattle.map.specs.declared.Field.the-variants.{RowScale, RowMaximum, Alpha, KTaAverage, KTaScale, KVAverage, KVScale, KPixel}
+use Rattle.map.specs.Map.{wordOf}
+use Rattle.tables.specs.declared.K.{K}
+use Rattle.tables.specs.declared.K.the-variants.{KTa, KV}
 
 -- ---- alpha
 
--- six row scales in words 25 to 27, 6 then 5 bits in each, each plus 20
+abbrev pub rowPixels : ℕ
+rowPixels = 32
+
+-- six row scales, 6 then 5 bits in each word, each plus 20
 abbrev pub rowScale : (ℕ → ℕ) → ℕ → ℕ
-rowScale w row = pick (eqb (row % 2) 0) (w (25 + row / 2) / 2 ^ 5) (w (25 + row / 2) % 2 ^ 5) + 20
+rowScale w row = pick (eqb (row % 2) 0) (w (wordOf RowScale (row / 2)) / 2 ^ 5) (w (wordOf RowScale (row / 2)) % 2 ^ 5) + 20
 
--- six row maxima in words 28 to 33
-abbrev pub reference : (ℕ → ℕ) → ℕ → Float
-reference w row = over (pos (w (28 + row))) (rowScale w row)
-
-unfoldable pub references : (ℕ → ℕ) → List Float
-references w = reference w 0 ∷ reference w 1 ∷ reference w 2 ∷ reference w 3 ∷ reference w 4 ∷ reference w 5 ∷ []
-
-abbrev pub alphaOf : ℕ → Float → Float
-alphaOf raw ref = whole (pos raw) ⊘ alphaFull ⊗ ref
+-- row maximum / 2^row scale
+unfoldable pub reference : (ℕ → ℕ) → ℕ → Float
+reference w row = over (pos (w (wordOf RowMaximum row))) (rowScale w row)
 
 -- pixel i
 unfoldable pub alphaAt : (ℕ → ℕ) → ℕ → Float
-alphaAt w i = alphaOf (w (256 + i)) (reference w (i / 32))
+alphaAt w i = real (pos (w (wordOf Alpha i))) ⊘ alphaFull ⊗ reference w (i / rowPixels)
 
 -- ---- K_Ta and K_V
 
--- the word of the average; both scales are in the next, scale 1 in its 6 upper bits and scale 2 in its 5 lower
-abbrev pub averageWord : Coefficient → ℕ
-averageWord KTa = 21
-averageWord KV = 23
+abbrev pub averageField : K → Field
+averageField KTa = KTaAverage
+averageField KV = KVAverage
 
-unfoldable pub scaleOf : (ℕ → ℕ) → Coefficient → KScale
-scaleOf w which = record {
-  average = whole (signed 11 (w (averageWord which)));
-  power1 = powerOfTwo (w (averageWord which + 1) / 2 ^ 5);
-  power2 = powerOfTwo (w (averageWord which + 1) % 2 ^ 5);
-}
+abbrev pub scaleField : K → Field
+scaleField KTa = KTaScale
+scaleField KV = KVScale
+
+abbrev pub average : (ℕ → ℕ) → K → Float
+average w k = real (signed 11 (w (wordOf (averageField k) 0)))
+
+-- scale 1 is 6 bits, scale 2 is 5
+abbrev pub scale1 : (ℕ → ℕ) → K → ℕ
+scale1 w k = w (wordOf (scaleField k) 0) / 2 ^ 5
+
+abbrev pub scale2 : (ℕ → ℕ) → K → ℕ
+scale2 w k = w (wordOf (scaleField k) 0) % 2 ^ 5
 
 -- upper 6 bits signed, lower 5 bits signed
-abbrev pub rawOf : Coefficient → ℕ → ℤ
+abbrev pub rawOf : K → ℕ → ℤ
 rawOf KTa n = signed 6 (n / 2 ^ 5)
 rawOf KV n = signed 5 n
 
-abbrev pub kOf : ℤ → KScale → Float
-kOf raw scale = (whole raw ⊗ scale .power2 ⊕ scale .average) ⊘ scale .power1
-
 -- pixel i
-unfoldable pub kAt : (ℕ → ℕ) → Coefficient → ℕ → Float
-kAt w which i = kOf (rawOf which (w (448 + i))) (scaleOf w which)
+unfoldable pub kAt : (ℕ → ℕ) → K → ℕ → Float
+kAt w k i = (real (rawOf k (w (wordOf KPixel i))) ⊗ powerOfTwo (scale2 w k) ⊕ average w k) ⊘ powerOfTwo (scale1 w k)

@@ -6,7 +6,6 @@ use Prim.Native.Nat.{ℕ, zero, suc, _-_, _*_, _%_, _^_, _<_, _≤_}
 use native.Mathlib.Nat.{pow-suc, mod-lt, mod-eq-of-lt, lt-of-not-le, zero-add}
 use native.Mathlib.Decide.{decLe}
 use native.Mathlib.Omega.{arith}
-use lib.Dec.{lit≤}
 use lib.Pow.{pow-pos, pow-mono}
 use lib.IntN.{ℤ, pos, negsuc, _-ℤ_}
 use lib.Signed.{mag}
@@ -15,7 +14,7 @@ use mir.Val.{toZ, ofZ}
 use mir.ValLaws.{toZ-ofZ}
 use borrow.Author.Tests.{lt-ltb, le-ltb}
 use Rattle.lists.specs.Pick.{pick}
-use Rattle.util.specs.Fields.{signed, bitsOf, Stands, combined, offsetAverage}
+use Rattle.util.specs.Fields.{signed, bitsOf, Stands}
 
 pub twice : (k : ℕ) → 1 ≤ k → 2 ^ k ≡ 2 ^ (k - 1) * 2
 twice k h = ap (λ (n : ℕ). 2 ^ n) (let e : k ≡ suc (k - 1) = omega arith in e) ∙ pow-suc 2 (k - 1)
@@ -74,8 +73,3 @@ pub signed-back : (k n : ℕ) → 1 ≤ k → k ≤ 16 → toZ w16 (ofZ w16 (sig
 signed-back k n p q =
     let l : 2 ^ (k - 1) ≤ 2 ^ 15 = pow-mono {i = k - 1} {j = 15} (omega arith) in
     toZ-ofZ w16 (signed k n) (record { sfits = let h = range-of k p n in omega arith })
-
--- so is the offset average
-pub average-range : (upper lower : ℕ) → mag (offsetAverage upper lower) < 32768
-unfolding offsetAverage
-average-range upper lower = let h = range-of 11 (lit≤ tt) (combined upper lower) in omega arith

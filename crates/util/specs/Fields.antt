@@ -1,19 +1,23 @@
--- Signed fields, combined words and words in two parts. Assumes nothing.
+-- Signed fields, combined words, and words as two numbers. Assumes nothing.
 use Prim.Native.Nat.{ℕ, suc, _-_, _*_, _/_, _%_, _^_, _<_}
 use mathlib.Core.Path.{_≡_}
 use mathlib.Core.Bool.{Bool}
 use lib.Bits.{bitOr}
 use lib.Dec.{ltb}
-use lib.IntN.{ℤ, pos, negsuc}
+use lib.IntN.{ℤ, pos, negsuc, negℤ}
 use lib.Signed.{mag}
 use Rattle.lists.specs.Pick.{pick}
-use Rattle.util.specs.declared.Parts.{Parts}
+use Rattle.util.specs.declared.Pair.{Pair}
 
 -- what the low `width` bits of n stand for in two's complement: themselves below the half, and 2 ^ width less from there on
 unfoldable pub signed : ℕ → ℕ → ℤ
 signed width n =
     let low = n % 2 ^ width in
     pick (ltb low (2 ^ (width - 1))) (pos low) (negsuc (2 ^ width - suc low))
+
+-- -n
+abbrev pub minus : ℕ → ℤ
+minus n = negℤ (pos n)
 
 -- the bits of such a number
 abbrev pub bitsOf : ℕ → ℤ → ℕ
@@ -32,12 +36,8 @@ abbrev pub combined : ℕ → ℕ → ℕ
 combined upper lower = bitOr (upper * 32) lower
 
 -- the low bits of n, and what stands above them
-abbrev pub splitAt : ℕ → ℕ → Parts
-splitAt width n = record { upper = n / 2 ^ width; lower = n % 2 ^ width }
-
--- combined, low 11 bits, signed
-unfoldable pub offsetAverage : ℕ → ℕ → ℤ
-offsetAverage upper lower = signed 11 (combined upper lower)
+abbrev pub pairOf : ℕ → ℕ → Pair
+pairOf width n = record { upper = n / 2 ^ width; lower = n % 2 ^ width }
 
 -- -32768 to 32767
 unfoldable pub inI16 : ℤ → Bool

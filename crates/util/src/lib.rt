@@ -1,14 +1,14 @@
-// Words and their fields: big-endian words, signed fields over the width, combined words, words in two parts; and the lesser of two lengths.
+// Words and their fields: big-endian words, signed fields over the width, combined words, words as two numbers; and the lesser of two lengths.
 ghost use mathlib.Core.Path.{_≡_};
 ghost use Prim.Native.Nat.{min, _+_, _*_, _<_, _≤_};
 ghost use lib.IntN.{_-ℤ_};
 ghost use lib.ListN.{length};
 ghost use lib.Signed.{mag};
 ghost use Rattle.util.specs.Words.{bigEndian, wordAt};
-ghost use Rattle.util.specs.Fields.{signed, combined, splitAt, offsetAverage, inI16};
+ghost use Rattle.util.specs.Fields.{signed, combined, pairOf, inI16};
 
-// A word in two parts.
-pub struct Parts {
+// A word as two numbers.
+pub struct Pair {
     pub upper: u16,
     pub lower: u16,
 }
@@ -59,21 +59,14 @@ pub fn combine(upper: u16, lower: u16) -> u32
 }
 
 // A word's low bits, and what stands above them.
-pub fn split(word: u16, low_bits: u32) -> Parts
+pub fn split(word: u16, low_bits: u32) -> Pair
     requires { ⌜ «low_bits» < 16 ⌝ }
-    ensures { λ r. ⌜ r ≡ splitAt «low_bits» word ⌝ }
+    ensures { λ r. ⌜ r ≡ pairOf «low_bits» word ⌝ }
 {
-    Parts {
+    Pair {
         upper: word >> low_bits,
         lower: word % (1 << low_bits),
     }
-}
-
-// The average of all pixel offsets.
-pub fn offset_average(upper: u16, lower: u16) -> i16
-    ensures { λ r. ⌜ r ≡ offsetAverage upper lower ⌝ }
-{
-    i16_from_bits(combine(upper, lower), 11)
 }
 
 // Whether an i16 holds the number.

@@ -1,27 +1,37 @@
--- `calibration::read_calibration` meets its contract: the three parts, joined. Assumes nothing.
+-- `calibration::read_calibration` meets its contract: the parts of the record, joined. Assumes nothing.
 use borrow.Author.Needs.{needs}
 use lib.Dec.{lit≤}
-use Rattle.util.specs.Fields.{combined}
 use Rattle.util.proofs.Width.{signed-back}
-use Rattle.card.specs.Cursor.{at}
+use Rattle.map.specs.declared.Field.the-variants.{VDd25, KVDd, OffsetCp}
+use Rattle.card.specs.Inner.{at}
 use Rattle.card.proofs.Times.{times-back}
-use Rattle.calibration.specs.Calibration.{basicsOf, compensationOf, calibrationOf}
+use Rattle.calibration.specs.Calibration.{single, double, calibrationOf}
 use Rattle.calibration.proofs.read_calibration.Statement.{statement}
 use Rattle.calibration.proofs.read_calibration.Tie as tie
 
 returns : tie.Need-returns
-unfolding calibrationOf basicsOf compensationOf
+unfolding calibrationOf
 returns c =
-    let w = at (c .before .before .before .before .before .before .before .args .words .now) in
+    let last = c .before .before .before .before in
+    let w = at (last .before .before .before .before .before .args .words .now) in
     rw (
-      c .before .before .before .before .before .before .read-basics .ensures,
-      c .before .before .before .before .before .read-compensation .ensures,
-      c .before .before .before .before .read-ranges .ensures,
-      times-back (w 39),
-      times-back (w 38),
-      signed-back 16 (combined (w 47) (w 48)) (lit≤ tt) (lit≤ tt),
+      last .before .before .before .before .read-sensing .ensures,
+      last .before .before .before .read-references .ensures,
+      last .before .before .read-ptat .ensures,
+      last .before .read-compensation .ensures,
+      last .read-ranges .ensures,
+      times-back (single w VDd25),
+      times-back (single w KVDd),
+      signed-back 16 (double w OffsetCp) (lit≤ tt) (lit≤ tt),
     )
 
 pub read-calibration-spec : {M : Type 1} → statement M
 read-calibration-spec =
-    tie.close (tie.spec (λ c κs. search needs) (λ c κs. search needs) (λ c κs. search needs) returns)
+    tie.close
+    (tie.spec
+    (λ c κs. search needs)
+    (λ c κs. search needs)
+    (λ c κs. search needs)
+    (λ c κs. search needs)
+    (λ c κs. search needs)
+    returns)

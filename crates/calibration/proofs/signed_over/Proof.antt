@@ -5,7 +5,7 @@ use lib.IntN.{ℤ}
 use lib.Ieee.{Float}
 use mir.Syntax.{w16}
 use mir.Val.{toZ, ofZ}
-use Rattle.floats.specs.Floats.{whole, _⊘_}
+use Rattle.floats.specs.Floats.{real, _⊘_}
 use Rattle.util.specs.Fields.{signed}
 use Rattle.util.proofs.Width.{signed-back}
 use Rattle.calibration.proofs.signed_over.Statement.{statement}
@@ -18,7 +18,7 @@ value c =
     ∙ signed-back (s .args .width) (s .args .word) (s .pre .0) (s .pre .1)
 
 returns : tie.Need-returns
-returns c = ap₂ (λ (z : ℤ) (p : Float). whole z ⊘ p) (value c) (c .exp2 .ensures)
+returns c = ap₂ (λ (z : ℤ) (p : Float). real z ⊘ p) (value c) (c .exp2 .ensures)
 
 pub signed-over-spec : {M : Type 1} → statement M
 signed-over-spec =

@@ -7,8 +7,8 @@ returns : tie.Need-returns
 returns c = rw (c .before .frame .given .1)
 
 returns-2 : tie.Need-returns-2
-returns-2 c = rw (c .before .before .number .ensures, c .before .place .ensures, c .value .ensures, c .before .before .before .before .frame2 .given .1)
+returns-2 c = rw (c .told .ensures, c .before .before .frame2 .given .1)
 
 pub frame-out-spec : {M : Type 1} → statement M
 frame-out-spec =
-    tie.close (tie.spec (λ c. search needs) (λ c. search needs) (λ c κs. search needs) (λ c κs. search needs) (λ c κs. search needs) returns returns-2)
+    tie.close (tie.spec (λ c. search needs) (λ c. search needs) (λ c κs. search needs) returns returns-2)

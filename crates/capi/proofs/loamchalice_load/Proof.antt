@@ -5,19 +5,17 @@ use Rattle.capi.proofs.loamchalice_load.Tie as tie
 
 returns : tie.Need-returns
 returns c =
-    let l = c .before .before .before .before .before .before .before .before .before .before .before .before .before .load in
+    let l = c .before .before .before .before .before .before .before .before .before .before .before .load in
     record {
       inner = l .result;
       loads = l .ensures;
-      out = rw (c .before .before .before .record-out .ensures, c .before .before .number .ensures, c .before .place .ensures, c .value .ensures);
+      out = rw (c .record-out .ensures, c .before .told .ensures);
     }
 
 pub loamchalice-load-spec : {M : Type 1} → statement M
 loamchalice-load-spec =
     tie.close
     (tie.spec
-    (λ c κs. search needs)
-    (λ c κs. search needs)
     (λ c κs. search needs)
     (λ c κs. search needs)
     (λ c κs. search needs)

@@ -7,16 +7,17 @@ use Rattle.lists.specs.Pick.{pick}
 use Rattle.util.specs.Words.{wordAt}
 use Rattle.hamming.specs.Word.{decoded, says}
 use Rattle.hamming.specs.Answer.{answerOf, checkAnswer}
+use Rattle.hamming.proofs.Answers.{check-is}
 use Rattle.card.specs.Card.{readAt}
 use Rattle.card.proofs.read_word.Statement.{statement}
 use Rattle.card.proofs.read_word.Tie as tie
 
 returns : tie.Need-returns
-unfolding readAt checkAnswer
+unfolding readAt
 returns c =
     let s = c .before .before .before .before .before in
     let w : ℕ = wordAt (s .args .image .now) (s .args .word) in
-    c .check .ensures ∙ ap checkAnswer (c .before .word-at .ensures)
+    c .check .ensures ∙ ap checkAnswer (c .before .word-at .ensures) ∙ check-is w
     ∙ sym (ap (λ (b : Bool). answerOf w (pick b (decoded w) (says 0))) (sym (c .before .before .before .is-checked .ensures) ∙ c .before .before .if1 .taken))
 
 returns-2 : tie.Need-returns-2

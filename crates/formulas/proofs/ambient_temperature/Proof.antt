@@ -6,7 +6,7 @@ use Rattle.formulas.proofs.ambient_temperature.Tie as tie
 
 returns : tie.Need-returns
 unfolding ambientOf
-returns c = cc
+returns c = rw (c .before .before .ptat-correction .ensures)
 
 pub ambient-temperature-spec : {M : Type 1} → statement M
 ambient-temperature-spec = tie.close (tie.spec (λ c κs. search needs) returns)

@@ -1,11 +1,11 @@
 -- `formulas::per_pixel_v_ir` meets its contract: the code is the formula. Assumes nothing.
 use borrow.Author.Needs.{needs}
-use Rattle.formulas.specs.Pixel.{infraredOf}
+use Rattle.formulas.specs.Pixel.{plainOf}
 use Rattle.formulas.proofs.per_pixel_v_ir.Statement.{statement}
 use Rattle.formulas.proofs.per_pixel_v_ir.Tie as tie
 
 returns : tie.Need-returns
-unfolding infraredOf
+unfolding plainOf
 returns c = search needs
 
 pub per-pixel-v-ir-spec : {M : Type 1} → statement M

@@ -1,11 +1,11 @@
 -- `formulas::ptat_correction` meets its contract: the code is the formula. Assumes nothing.
 use borrow.Author.Needs.{needs}
-use Rattle.formulas.specs.Frame.{correctionOf}
+use Rattle.formulas.specs.Frame.{ptatCorrectionOf}
 use Rattle.formulas.proofs.ptat_correction.Statement.{statement}
 use Rattle.formulas.proofs.ptat_correction.Tie as tie
 
 returns : tie.Need-returns
-unfolding correctionOf
+unfolding ptatCorrectionOf
 returns c = search needs
 
 pub ptat-correction-spec : {M : Type 1} → statement M

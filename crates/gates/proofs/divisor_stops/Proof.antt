@@ -4,26 +4,26 @@ use mathlib.Core.Path.{_≡_, sym, ap, _∙_}
 use mathlib.Core.Bool.{false}
 use mir.Syntax.{w16}
 use mir.Val.{toZ, ofZ}
-use Rattle.floats.specs.Floats.{whole}
-use Rattle.formulas.specs.Frame.{deltaOf, correctionOf}
+use Rattle.floats.specs.Floats.{real}
+use Rattle.formulas.specs.Frame.{deltaOf, ptatCorrectionOf}
 use Rattle.gates.specs.Gate.{isZero, zeroDivisor}
 use Rattle.gates.proofs.divisor_stops.Statement.{statement}
 use Rattle.gates.proofs.divisor_stops.Tie as tie
 
-k-v-dd : (c : tie.After-struct-told) → isZero (whole (toZ w16 (ofZ w16 (c .before .before .args .calibration .«k_v_dd»)))) ≡ isZero (whole (c .before .before .args .calibration .«k_v_dd»))
+k-v-dd : (c : tie.After-struct-told) → isZero (real (toZ w16 (ofZ w16 (c .before .before .args .calibration .«k_v_dd»)))) ≡ isZero (real (c .before .before .args .calibration .«k_v_dd»))
 k-v-dd c = search needs
 
-gain : (c : tie.After-struct-told2) → isZero (whole (toZ w16 (ofZ w16 (c .before .before .before .before .before .args .ram .gain)))) ≡ isZero (whole (c .before .before .before .before .before .args .ram .gain))
+gain : (c : tie.After-struct-told2) → isZero (real (toZ w16 (ofZ w16 (c .before .before .before .before .before .args .ram .gain)))) ≡ isZero (real (c .before .before .before .before .before .args .ram .gain))
 gain c = search needs
 
-no-k-v-dd : (c : tie.Else1) → isZero (whole (c .before .before .before .args .calibration .«k_v_dd»)) ≡ false
+no-k-v-dd : (c : tie.Else1) → isZero (real (c .before .before .before .args .calibration .«k_v_dd»)) ≡ false
 no-k-v-dd c = sym (k-v-dd (c .before)) ∙ c .if1 .left
 
-no-gain : (c : tie.Else2) → isZero (whole (c .before .before .before .before .before .before .args .ram .gain)) ≡ false
+no-gain : (c : tie.Else2) → isZero (real (c .before .before .before .before .before .before .args .ram .gain)) ≡ false
 no-gain c = sym (gain (c .before)) ∙ c .if2 .left
 
-correction : (c : tie.After-ptat-correction) → isZero (c .ptat-correction .result) ≡ isZero (correctionOf (c .before .before .before .before .before .before .before .before .before .before .args .calibration) (deltaOf (c .before .before .before .before .before .before .before .before .before .before .args .calibration) (c .before .before .before .before .before .before .before .before .before .before .args .ram)))
-correction c = ap isZero (c .ptat-correction .ensures ∙ ap (correctionOf (c .before .before .before .before .before .before .before .before .before .before .args .calibration)) (c .before .delta-v .ensures))
+correction : (c : tie.After-ptat-correction) → isZero (c .ptat-correction .result) ≡ isZero (ptatCorrectionOf (c .before .before .before .before .before .before .before .before .before .before .args .calibration) (deltaOf (c .before .before .before .before .before .before .before .before .before .before .args .calibration) (c .before .before .before .before .before .before .before .before .before .before .args .ram)))
+correction c = ap isZero (c .ptat-correction .ensures ∙ ap (ptatCorrectionOf (c .before .before .before .before .before .before .before .before .before .before .args .calibration)) (c .before .delta-v .ensures))
 
 returns : tie.Need-returns
 unfolding zeroDivisor

@@ -1,6 +1,6 @@
 -- `hamming::syndrome` meets its contract: each digit is its parity. Assumes nothing.
 use borrow.Author.Needs.{needs}
-use Rattle.hamming.specs.Syndrome.{syndromeOf}
+use Rattle.hamming.specs.Inner.{syndromeOf}
 use Rattle.hamming.proofs.syndrome.Statement.{statement}
 use Rattle.hamming.proofs.syndrome.Tie as tie
 

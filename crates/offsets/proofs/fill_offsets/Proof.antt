@@ -1,22 +1,23 @@
 -- `offsets::fill_offsets` meets its contract: entry after entry, none of them outside. Assumes nothing.
 use borrow.Author.Needs.{needs, sfits-of}
-use mathlib.Core.Path.{_∙_}
-use Prim.Native.Nat.{ℕ, _+_, _-_}
+use mathlib.Core.Path.{sym, _∙_, subst}
+use Prim.Native.Nat.{ℕ, _+_, _-_, _<_}
 use native.Mathlib.Omega.{arith}
 use mir.Syntax.{w16}
 use mir.Facts.{toZ-ofZ}
 use Rattle.lists.proofs.Fill as fill
 use Rattle.lists.proofs.Fill.{Filling}
-use Rattle.card.specs.Cursor.{at}
+use Rattle.card.specs.Inner.{at}
 use Rattle.offsets.specs.Offsets.{offsetAt}
+use Rattle.offsets.proofs.Range.{scale-is}
 use Rattle.offsets.proofs.fill_offsets.Statement.{statement}
 use Rattle.offsets.proofs.fill_offsets.Tie as tie
 
 abbrev Inv-loop : tie.InvT-loop
-Inv-loop words scale first table₀ i₀ table i = Filling (λ (k : ℕ). offsetAt (at words) (first + k)) 192 table₀ table i
+Inv-loop words first table₀ basis i₀ table i = Filling (λ (k : ℕ). offsetAt (at words) (first + k)) 192 table₀ table i
 
 abbrev μ-loop : tie.MeasureT-loop
-μ-loop words scale first table₀ i₀ table i = 192 - i
+μ-loop words first table₀ basis i₀ table i = 192 - i
 
 loop-holds : tie.Need-loop-holds Inv-loop μ-loop
 loop-holds c = fill.start _ _ _
@@ -34,11 +35,14 @@ fill-offsets-spec =
     (tie.spec
     Inv-loop
     μ-loop
+    (λ c κs. search needs)
     loop-holds
     (λ c. omega arith)
     (λ c κs.
-    let p = c .before .before .pre in
-    (omega arith, p .0 .0, p .0 .1, p .1 .0 (c .before .before .args .first + c .before .loop .i) (omega arith)))
+    let b = c .before .before in
+    let p = b .before .pre in
+    let e = b .read-basis .ensures in
+    (omega arith, e, subst (λ (k : ℕ). k < 15) (sym (scale-is _ _ e)) (p .0 .0), p .0 .1 (b .before .args .first + c .before .loop .i) (omega arith)))
     (λ c. search needs)
     (λ c. search needs)
     (λ c. search needs)

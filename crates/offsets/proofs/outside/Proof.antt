@@ -6,17 +6,17 @@ use lib.IntN.{ℤ, _+ℤ_}
 use mir.Facts.{toZ-ofZ}
 use mir.Syntax.{w32}
 use mir.Val.{toZ, ofZ}
-use Rattle.card.specs.Cursor.{at}
+use Rattle.card.specs.Inner.{at}
 use Rattle.util.specs.Fields.{inI16}
-use Rattle.offsets.specs.Offsets.{scaledAt, offsetAt, outsideAt}
+use Rattle.offsets.specs.Offsets.{productAt, offsetAt, outsideAt}
 use Rattle.offsets.proofs.Range.{average-clean}
 use Rattle.offsets.proofs.outside.Statement.{statement}
 use Rattle.offsets.proofs.outside.Tie as tie
 
-part : (c : tie.After-part-at) → toZ w32 (ofZ w32 (c .part-at .result)) ≡ scaledAt (at (c .before .args .words .now)) (c .before .args .entry)
-part c = toZ-ofZ {w = w32} (record { sfits = c .part-at .ok }) ∙ c .part-at .ensures .0
+part : (c : tie.After-product-at) → toZ w32 (ofZ w32 (c .product-at .result)) ≡ productAt (at (c .before .args .words .now)) (c .before .args .entry)
+part c = toZ-ofZ {w = w32} (record { sfits = c .product-at .ok }) ∙ c .product-at .ensures .0
 
-judged : (c : tie.After-fits-i16) → c .fits-i16 .result ≡ inI16 (scaledAt (at (c .before .before .args .words .now)) (c .before .before .args .entry))
+judged : (c : tie.After-fits-i16) → c .fits-i16 .result ≡ inI16 (productAt (at (c .before .before .args .words .now)) (c .before .before .args .entry))
 judged c = c .fits-i16 .ensures ∙ ap inI16 (part (c .before))
 
 -- the sum is the offset
@@ -48,7 +48,7 @@ outside-spec =
     (tie.spec
     (λ c κs. search needs)
     (λ c κs. search needs)
-    (λ c κs. rw (toZ-ofZ {w = w32} (record { sfits = c .before .before .before .part-at .ok })) (c .before .before .before .part-at .ensures .1))
+    (λ c κs. rw (toZ-ofZ {w = w32} (record { sfits = c .before .before .before .product-at .ok })) (c .before .before .before .product-at .ensures .1))
     (λ c κs. search needs)
     returns
     returns-2)

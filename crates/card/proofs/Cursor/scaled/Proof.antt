@@ -8,7 +8,7 @@ use lib.Ieee.{Float}
 use lib.ListN.{getD}
 use mir.Syntax.{w16}
 use mir.Val.{toZ, ofZ}
-use Rattle.floats.specs.Floats.{whole, _⊘_}
+use Rattle.floats.specs.Floats.{real, _⊘_}
 use Rattle.util.specs.Fields.{signed}
 use Rattle.util.proofs.Width.{signed-back}
 use Rattle.card.specs.declared.Signed.{Signed}
@@ -20,8 +20,8 @@ returns : tie.Need-returns
 returns c =
     let a = c .before .before .before .before .before .args in
     let next = a .self .word + 1 in
-    let read : Signed → Scaled = λ r. record { value = whole (toZ w16 (ofZ w16 (r .value))) ⊘ c .exp2 .result; next = r .next } in
-    let made : ℤ → Float → Scaled = λ z p. record { value = whole z ⊘ p; next = record { word = next } } in
+    let read : Signed → Scaled = λ r. record { value = real (toZ w16 (ofZ w16 (r .value))) ⊘ c .exp2 .result; next = r .next } in
+    let made : ℤ → Float → Scaled = λ z p. record { value = real z ⊘ p; next = record { word = next } } in
     ap read (c .before .before .before .before .signed .ensures)
     ∙ ap (λ (z : ℤ). made z (c .exp2 .result)) (signed-back 11 (getD (a .words .now) (a .self .word) 0) (lit≤ tt) (lit≤ tt))
     ∙ ap (made (signed 11 (getD (a .words .now) (a .self .word) 0))) (c .exp2 .ensures)

@@ -1,0 +1,40 @@
+-- Infrared numbers first, then temperatures over them, is one pass. Assumes nothing.
+use Prim.Native.Nat.{ℕ, _≤_}
+use mathlib.Core.Path.{_≡_, ap₂, _∙_}
+use mathlib.Core.List.{List}
+use lib.ListN.{getD, length}
+use lib.Ieee.{Float, nan}
+use Rattle.formulas.specs.Pixel.{reflectedOf, tArOf, sensitivityOf, finalOf, answerOf}
+use Rattle.pixels.specs.Pixels.{held, answerBits, temperatureBits, into, lostOf}
+use Rattle.pixels.proofs.Stages.{pass-lost, pass-into}
+use Rattle.calculations.specs.declared.Summary.{Summary}
+use Rattle.calculations.specs.Frames.{ToCall, PassCall, toCall, onward, infraredAt, finalAt}
+use Rattle.calculations.specs.Inner.{Infrared, Temperature}
+use Rattle.calculations.proofs.Calls.{infrared-fits}
+
+-- a call from infrared to temperature, with the settings of a pass and any ambient temperature
+abbrev pub onwardAt : PassCall → Float → ToCall
+onwardAt f tA = toCall (f .ir .calibration) (f .ir .emissivity) tA (f .range) (f .reflected) (f .alpha) (f .ir .mask)
+
+module _ (f : PassCall) (n : ℕ) {d d₁ d₂ : List ℕ} {r : Summary} {lost : ℕ} (l : n ≤ length d)
+    (i : Infrared (f .ir) n d d₁ r) (t : Temperature (onwardAt f (r .«t_a»)) n d₁ d₂ lost) where
+  abbrev bits : Float → ℕ → ℕ
+  bits x k =
+      let g = onward f in
+      answerBits (answerOf (finalOf (getD (g .calibration .«k_s_to») (g .range) nan) (tArOf (g .ambient) (reflectedOf (g .reflected) (g .ambient)) (g .emissivity))
+      (sensitivityOf (g .calibration) (g .ambient) (getD (g .alpha) k nan)) x) x)
+
+  abbrev staged-bits : Float → List ℕ → ℕ → ℕ
+  staged-bits tA w = temperatureBits (finalAt (onwardAt f tA) (held w)) (held w)
+
+  pub both-lost : lost ≡ lostOf (f .ir .mask) (temperatureBits (finalAt (onward f) (infraredAt (f .ir))) (infraredAt (f .ir))) n
+  unfolding finalAt
+  both-lost =
+      t .lost-is ∙ ap₂ (λ (tA : Float) (w : List ℕ). lostOf (f .ir .mask) (staged-bits tA w) n) (i .ambient) (i .destination)
+      ∙ pass-lost (f .ir .mask) (infraredAt (f .ir)) (infrared-fits (f .ir)) n d l bits
+
+  pub both-into : d₂ ≡ into (f .ir .mask) (temperatureBits (finalAt (onward f) (infraredAt (f .ir))) (infraredAt (f .ir))) n d
+  unfolding finalAt
+  both-into =
+      t .destination ∙ ap₂ (λ (tA : Float) (w : List ℕ). into (f .ir .mask) (staged-bits tA w) n w) (i .ambient) (i .destination)
+      ∙ pass-into (f .ir .mask) (infraredAt (f .ir)) (infrared-fits (f .ir)) n d l bits

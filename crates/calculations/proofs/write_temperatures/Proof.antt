@@ -1,0 +1,43 @@
+-- `calculations::write_temperatures` meets its contract: what is lifted out is the call's. Assumes nothing.
+use borrow.Author.Needs.{needs}
+use mathlib.Core.Path.{_≡_, ap, _∙_}
+use Prim.Native.Nat.{ℕ}
+use lib.Ieee.{Float}
+use Rattle.pixels.specs.Pixels.{held, temperatureBits, into, lostOf}
+use Rattle.calculations.specs.Frames.{ToCall, toCall, finalAt}
+use Rattle.pixels.specs.Inner.{liftedAt}
+use Rattle.calculations.proofs.Calls.{final-from}
+use Rattle.calculations.proofs.write_temperatures.Statement.{statement}
+use Rattle.calculations.proofs.write_temperatures.Tie as tie
+
+abbrev call : tie.Start → ToCall
+call s =
+    let a = s .args in
+    toCall (a .calibration) (a .emissivity) (a .t-a) (a .basic-range) (a .reflected) (a .alpha .now) (a .mask .now)
+
+abbrev start : tie.After-common-to-data → tie.Start
+start c = c .before .before .before .before .before
+
+final : (c : tie.After-common-to-data) (v : ℕ → Float) → let s = start c in liftedAt (c .common-to-data .result) (s .args .alpha .now) v ≡ finalAt (call s) v
+final c v = final-from (call (start c)) v (c .before .basic-k-s-to .ensures) (c .common-to-data .ensures)
+
+returns : tie.Need-returns
+returns c =
+    let t = c .before .before in
+    let k = t .before .before in
+    let a = start k .args in
+    let v = held (a .destination .now) in
+    record {
+      lost-is = t .temperature-pixels .ensures .0 ∙ ap (λ (X : ℕ → Float). lostOf (a .mask .now) (temperatureBits X v) (a .n)) (final k v);
+      destination = t .temperature-pixels .ensures .1 ∙ ap (λ (X : ℕ → Float). into (a .mask .now) (temperatureBits X v) (a .n) (a .destination .now)) (final k v);
+    }
+
+pub write-temperatures-spec : {M : Type 1} → statement M
+write-temperatures-spec =
+    tie.close
+    (tie.spec
+    (λ c κs. search needs)
+    (λ c κs. search needs)
+    (λ c κs. search needs)
+    (λ c. search needs)
+    returns)

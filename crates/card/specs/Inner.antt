@@ -1,0 +1,40 @@
+-- For inner functions only. What the cursor reads at a word of decoded data: the field, and the cursor past it. Assumes nothing.
+use Prim.Native.Nat.{ℕ, _+_}
+use mathlib.Core.List.{List}
+use lib.IntN.{pos, _*ℤ_}
+use lib.ListN.{getD}
+use Rattle.floats.specs.Floats.{real, over}
+use Rattle.util.specs.Fields.{signed, combined, pairOf}
+use Rattle.card.specs.declared.Plain.{Plain}
+use Rattle.card.specs.declared.Signed.{Signed}
+use Rattle.card.specs.declared.Combined.{Combined}
+use Rattle.card.specs.declared.Split.{Split}
+use Rattle.card.specs.declared.Scaled.{Scaled}
+
+-- the data of a word by its number
+abbrev pub at : List ℕ → ℕ → ℕ
+at words k = getD words k 0
+
+abbrev pub plainAt : List ℕ → ℕ → Plain
+plainAt words k = record { value = at words k; next = record { word = k + 1 } }
+
+abbrev pub signedAt : List ℕ → ℕ → Signed
+signedAt words k = record { value = signed 11 (at words k); next = record { word = k + 1 } }
+
+abbrev pub combinedAt : List ℕ → ℕ → Combined
+combinedAt words k = record { value = combined (at words k) (at words (k + 1)); next = record { word = k + 2 } }
+
+abbrev pub splitAt : List ℕ → ℕ → ℕ → Split
+splitAt words width k = record { value = pairOf width (at words k); next = record { word = k + 1 } }
+
+abbrev pub times32At : List ℕ → ℕ → Signed
+times32At words k = record { value = signed 11 (at words k) *ℤ pos 32; next = record { word = k + 1 } }
+
+abbrev pub fractionAt : List ℕ → ℕ → ℕ → Scaled
+fractionAt words power k = record { value = over (pos (at words k)) power; next = record { word = k + 1 } }
+
+abbrev pub realAt : List ℕ → ℕ → Scaled
+realAt words k = record { value = real (pos (combined (at words k) (at words (k + 1)))); next = record { word = k + 2 } }
+
+abbrev pub scaledAt : List ℕ → ℕ → ℕ → Scaled
+scaledAt words power k = record { value = over (signed 11 (at words k)) power; next = record { word = k + 1 } }

@@ -1,0 +1,2 @@
+-- What the code lifts out of the pixels is what the formulas say.
+pub mod Lifted

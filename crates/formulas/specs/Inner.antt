@@ -1,0 +1,55 @@
+-- For inner functions only: what the code lifts out of the pixels, and the formulas over that. proofs/Lifted joins them with those of Pixel.
+-- Assumes nothing.
+use lib.Ieee.{Float}
+use Rattle.floats.specs.Floats.{_⊕_, _⊖_, _⊗_, _⊘_, real}
+use Rattle.floats.specs.Constants.{one, twentyFive, freezing}
+use Rattle.root.specs.Root.{root}
+use Rattle.calibration.specs.declared.Calibration.{Calibration}
+use Rattle.calibration.specs.declared.Gradient.{Gradient}
+use Rattle.calibration.specs.declared.Gradient.the-variants.{Coefficient, Missing}
+use Rattle.formulas.specs.declared.CommonIrData.{CommonIrData}
+use Rattle.formulas.specs.declared.CommonToData.{CommonToData}
+use Rattle.formulas.specs.declared.Reflected.{Reflected}
+use Rattle.formulas.specs.declared.Deduction.{Deduction}
+use Rattle.formulas.specs.declared.Deduction.the-variants.{Nothing, Amount}
+use Rattle.formulas.specs.Pixel.{plainOf, cube, fourth, reflectedOf, tArOf}
+
+-- x less what is deducted from every pixel
+abbrev pub deducted : Float → Deduction → Float
+deducted x Nothing = x
+deducted x (Amount y) = x ⊖ y
+
+-- what a gradient deducts: y of it
+abbrev pub deductionBy : Gradient → (Float → Float) → Deduction
+deductionBy (Coefficient g) y = Amount (y g)
+deductionBy Missing y = Nothing
+
+unfoldable pub compensationOf : Calibration → CommonIrData → Float → Deduction
+compensationOf c common reading =
+    deductionBy (c .«temperature_gradient_coefficient»)
+    (λ (g : Float). g ⊗ plainOf common reading (real (c .«offset_reference_cp»)) (c .«k_v_cp») (c .«k_ta_cp»))
+
+unfoldable pub alphaDeductionOf : Calibration → Deduction
+alphaDeductionOf c = deductionBy (c .«temperature_gradient_coefficient») (λ (g : Float). c .«alpha_cp» ⊗ g)
+
+unfoldable pub correctionOf : Calibration → Float → Float
+correctionOf c tA = one ⊕ c .«k_s_ta» ⊗ (tA ⊖ twentyFive)
+
+-- what all pixels share, k being K_sTo of the basic range
+unfoldable pub commonToOf : Calibration → Float → Float → Reflected → Float → CommonToData
+commonToOf c emissivity tA reflected k = record {
+  «alpha_deduction» = alphaDeductionOf c;
+  correction = correctionOf c tA;
+  «t_ar» = tArOf tA (reflectedOf reflected tA) emissivity;
+  «k_s_to» = k;
+  slope = one ⊖ k ⊗ freezing;
+}
+
+-- A and X over that
+unfoldable pub liftedSensitivity : Float → CommonToData → Float
+liftedSensitivity alpha c = deducted alpha (c .«alpha_deduction») ⊗ c .correction
+
+unfoldable pub liftedFinal : Float → Float → CommonToData → Float
+liftedFinal v A c =
+    let s = c .«k_s_to» ⊗ root (cube A ⊗ v ⊕ fourth A ⊗ c .«t_ar») in
+    v ⊘ (A ⊗ c .slope ⊕ s) ⊕ c .«t_ar»

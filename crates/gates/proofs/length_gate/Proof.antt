@@ -1,0 +1,17 @@
+-- `gates::length_gate` meets its contract: each return is one line of the definition. Assumes nothing.
+use borrow.Author.Tests.{lt-ltb, le-ltb}
+use Rattle.refusal.specs.Order.{firstOf}
+use Rattle.gates.specs.Gate.{lengthTests}
+use Rattle.gates.proofs.length_gate.Statement.{statement}
+use Rattle.gates.proofs.length_gate.Tie as tie
+
+returns : tie.Need-returns
+unfolding lengthTests firstOf
+returns c = rw (lt-ltb _ _ (c .if1 .taken))
+
+returns-2 : tie.Need-returns-2
+unfolding lengthTests firstOf
+returns-2 c = rw (le-ltb _ _ (c .if1 .left))
+
+pub length-gate-spec : {M : Type 1} → statement M
+length-gate-spec = tie.close (tie.spec returns returns-2)

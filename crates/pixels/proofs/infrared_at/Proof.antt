@@ -1,0 +1,34 @@
+-- `pixels::infrared_at` meets its contract: its callees' contracts, one after the other. Assumes nothing.
+use borrow.Author.Needs.{needs, sfits-of}
+use mir.Facts.{toZ-ofZ}
+use mir.Syntax.{w16}
+use Rattle.pixels.specs.Inner.{rawAt}
+use Rattle.pixels.proofs.infrared_at.Statement.{statement}
+use Rattle.pixels.proofs.infrared_at.Tie as tie
+
+returns : tie.Need-returns
+unfolding rawAt
+returns c =
+    rw (
+      c .deduct .ensures,
+      c .before .per-pixel-v-ir .ensures,
+      c .before .before .before .before .real .ensures,
+      c .before .before .before .before .before .before .reading-at .ensures,
+      toZ-ofZ {w = w16} (sfits-of (c .before .before .before .before .before .real-arg .given)),
+    )
+
+pub infrared-at-spec : {M : Type 1} → statement M
+infrared-at-spec =
+    tie.close
+    (tie.spec
+    (λ c κs. search needs)
+    (λ c. search needs)
+    (λ c. search needs)
+    (λ c κs. search needs)
+    (λ c. search needs)
+    (λ c. search needs)
+    (λ c. search needs)
+    (λ c. search needs)
+    (λ c κs. search needs)
+    (λ c κs. search needs)
+    returns)

@@ -1,0 +1,161 @@
+// The pixels of a frame: their readings to infrared numbers, and those to temperatures, where the mask asks for them.
+ghost use mathlib.Core.Path.{_≡_};
+ghost use Prim.Native.Nat.{_+_, _*_, _<_, _≤_};
+ghost use lib.ListN.{length};
+ghost use Rattle.lists.specs.Written.{written};
+ghost use Rattle.floats.specs.Floats.{real};
+ghost use Rattle.map.specs.Map.{framePixels};
+ghost use Rattle.pixels.specs.Pixels.{touched, readingAt, held, infraredBits, temperatureBits, into, lostOf};
+ghost use Rattle.pixels.specs.Inner.{raw, rawAt, liftedAt, valueAt};
+use formulas::CommonIrData;
+use formulas::CommonToData;
+use formulas::Deduction;
+use formulas::Pixel;
+use map::PIXELS;
+use offsets::Offset;
+
+// The bits of every not-a-number that is written.
+const PATTERN: u32 = 0x7FC0_0000;
+
+// Whether the mask asks for pixel i: no byte left is as 0.
+fn masked(mask: &[u8], i: usize) -> bool
+    ensures { λ r. ⌜ r ≡ touched (now (mask .entry)) i ⌝ }
+{
+    if i < mask.len() {
+        let byte = mask[i];
+        byte != 0
+    } else {
+        false
+    }
+}
+
+// Pixel i's reading as a number.
+fn reading_at(pixels: &[u8], i: usize) -> f32
+    requires { ⌜ i * 2 + 1 < length (now pixels) ⌝ }
+    ensures { λ r. ⌜ r ≡ readingAt (now (pixels .entry)) i ⌝ }
+{
+    let word = util::word_at(pixels, i);
+    util::i16_from_bits(util::wide(word), 16) as f32
+}
+
+// An offset as a number.
+fn real(offset: Offset) -> f32
+    ensures { λ r. ⌜ r ≡ real offset ⌝ }
+{
+    offset as f32
+}
+
+// Pixel i's infrared number.
+fn infrared_at(
+    common: CommonIrData,
+    deduction: Deduction,
+    pixels: &[u8],
+    offsets: &[Offset],
+    k_v: &[f32],
+    k_ta: &[f32],
+    i: usize,
+) -> f32
+    requires { ⌜ (i * 2 + 1 < length (now pixels)) × (i < length (now offsets)) × (i < length (now «k_v»)) × (i < length (now «k_ta»)) ⌝ }
+    ensures { λ r. ⌜ r ≡ rawAt (raw common deduction (now (pixels .entry)) (now (offsets .entry)) (now («k_v» .entry)) (now («k_ta» .entry))) i ⌝ }
+{
+    let reading = reading_at(pixels, i);
+    let offset = real(offsets[i]);
+    let v_ir = formulas::per_pixel_v_ir(reading, common, offset, k_v[i], k_ta[i]);
+    formulas::deduct(v_ir, deduction)
+}
+
+// Pixels 0 to n - 1 as infrared numbers into the destination. Answers how many were not numbers.
+pub fn infrared_pixels(
+    common: CommonIrData,
+    deduction: Deduction,
+    mask: &[u8],
+    pixels: &[u8],
+    offsets: &[Offset],
+    k_v: &[f32],
+    k_ta: &[f32],
+    destination: &mut [u32],
+    n: usize,
+) -> usize
+    requires { ⌜ (n ≤ length (now destination)) × (n * 2 ≤ length (now pixels)) ⌝ }
+    requires { ⌜ (n ≤ length (now offsets)) × (n ≤ length (now «k_v»)) × (n ≤ length (now «k_ta»)) ⌝ }
+    ensures { λ r. ⌜ r ≡ lostOf (now (mask .entry)) (infraredBits (rawAt (raw common deduction (now (pixels .entry)) (now (offsets .entry)) (now («k_v» .entry)) (now («k_ta» .entry))))) n ⌝ }
+    ensures { λ r. ⌜ now (destination .exit) ≡ into (now (mask .entry)) (infraredBits (rawAt (raw common deduction (now (pixels .entry)) (now (offsets .entry)) (now («k_v» .entry)) (now («k_ta» .entry))))) n (now (destination .entry)) ⌝ }
+{
+    let mut lost: usize = 0;
+    for i in 0..n {
+        if !masked(mask, i) {
+            continue;
+        }
+        let v_ir = infrared_at(common, deduction, pixels, offsets, k_v, k_ta, i);
+        if v_ir != v_ir {
+            destination[i] = PATTERN;
+            lost += 1;
+            continue;
+        }
+        destination[i] = floats::to_bits(v_ir);
+    }
+    lost
+}
+
+// The final values of pixels 0 to n - 1, from the infrared numbers whose bits are lent.
+fn final_values(
+    common: CommonToData,
+    mask: &[u8],
+    alpha: &[f32],
+    infrared: &[u32],
+    values: &mut [f32],
+    n: usize,
+)
+    requires { ⌜ (n ≤ length (now alpha)) × (n ≤ length (now infrared)) × (n ≤ length (now values)) ⌝ }
+    ensures { λ r. ⌜ now (values .exit) ≡ written (touched (now (mask .entry))) (liftedAt common (now (alpha .entry)) (held (now (infrared .entry)))) n (now (values .entry)) ⌝ }
+{
+    for p in 0..n {
+        if !masked(mask, p) {
+            continue;
+        }
+        let v_ir = floats::from_bits(infrared[p]);
+        let a = formulas::sensitivity(alpha[p], common);
+        values[p] = formulas::final_value(v_ir, a, common);
+    }
+}
+
+// Pixels 0 to n - 1 of infrared numbers to temperatures, in place, from their final values. Answers how many had none.
+fn answer_pixels(mask: &[u8], values: &[f32], destination: &mut [u32], n: usize) -> usize
+    requires { ⌜ (n ≤ length (now values)) × (n ≤ length (now destination)) ⌝ }
+    ensures { λ r. ⌜ r ≡ lostOf (now (mask .entry)) (temperatureBits (valueAt (now (values .entry))) (held (now (destination .entry)))) n ⌝ }
+    ensures { λ r. ⌜ now (destination .exit) ≡ into (now (mask .entry)) (temperatureBits (valueAt (now (values .entry))) (held (now (destination .entry)))) n (now (destination .entry)) ⌝ }
+{
+    let mut lost: usize = 0;
+    for k in 0..n {
+        if !masked(mask, k) {
+            continue;
+        }
+        let v_ir = floats::from_bits(destination[k]);
+        let answer = formulas::pixel_answer(v_ir, values[k]);
+        let Pixel::Temperature(t) = answer else {
+            destination[k] = PATTERN;
+            lost += 1;
+            continue;
+        };
+        destination[k] = floats::to_bits(t);
+    }
+    lost
+}
+
+// Pixels 0 to n - 1 of infrared numbers to temperatures, in place. Answers how many had none.
+// Each pixel has two roots, one inside the other: apart, many pixels are under way at once.
+pub fn temperature_pixels(
+    common: CommonToData,
+    mask: &[u8],
+    alpha: &[f32],
+    destination: &mut [u32],
+    n: usize,
+) -> usize
+    requires { ⌜ (n ≤ framePixels) × (n ≤ length (now destination)) × (n ≤ length (now alpha)) ⌝ }
+    ensures { λ r. ⌜ r ≡ lostOf (now (mask .entry)) (temperatureBits (liftedAt common (now (alpha .entry)) (held (now (destination .entry)))) (held (now (destination .entry)))) n ⌝ }
+    ensures { λ r. ⌜ now (destination .exit) ≡ into (now (mask .entry)) (temperatureBits (liftedAt common (now (alpha .entry)) (held (now (destination .entry)))) (held (now (destination .entry)))) n (now (destination .entry)) ⌝ }
+{
+    let mut values = [0.0f32; PIXELS];
+    final_values(common, mask, alpha, destination, &mut values, n);
+    answer_pixels(mask, &values, destination, n)
+}
