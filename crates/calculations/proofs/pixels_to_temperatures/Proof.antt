@@ -9,7 +9,7 @@ use lib.Ieee.{binary32, toBits}
 use Rattle.refusal.specs.declared.Verdict.the-variants.{Pass}
 use Rattle.map.specs.Map.{framePixels}
 use Rattle.pixels.specs.Pixels.{temperatureBits, into, lostOf}
-use Rattle.calculations.specs.Frames.{PassCall, irCall, passCall, irTable, passVerdict, infraredAt, finalAt, onward}
+use Rattle.calculations.specs.Frames.{PassCall, countOf, irCall, passCall, irTable, passLengths, passVerdict, infraredAt, finalAt, onward}
 use Rattle.calculations.proofs.Opened.{one-pass-opened}
 use Rattle.calculations.proofs.Calls.{refused, done}
 use Rattle.calculations.proofs.Both.{both-lost, both-into}
@@ -63,7 +63,7 @@ returns-2 c =
     let f = call (start g) in
     let d = start g .args .destination .now in
     let bits = temperatureBits (finalAt (onward f) (infraredAt (f .ir))) (infraredAt (f .ir)) in
-    let n = m .pixel-count .ensures in
+    let n : m .pixel-count .result ≡ countOf (passLengths f d) = m .pixel-count .ensures in
     done (sym (gated g) ∙ p .enum-told .given .1) (c .to-bits .ensures ∙ ap (toBits binary32) (i .write-infrared .ensures .ambient))
     (both-lost f (m .pixel-count .result) (omega arith) (i .write-infrared .ensures) (t .write-temperatures .ensures) ∙ ap (lostOf (f .ir .mask) bits) n)
     (both-into f (m .pixel-count .result) (omega arith) (i .write-infrared .ensures) (t .write-temperatures .ensures) ∙ ap (λ (k : ℕ). into (f .ir .mask) bits k d) n)

@@ -7,6 +7,7 @@ use native.Mathlib.Omega.{arith}
 use lib.ListN.{length}
 use Rattle.refusal.specs.declared.Verdict.the-variants.{Pass}
 use Rattle.map.specs.Map.{framePixels}
+use Rattle.gates.specs.Gate.{lengthTests}
 use Rattle.pixels.specs.Pixels.{held, temperatureBits, into, lostOf}
 use Rattle.calculations.specs.Frames.{ToCall, toCall, toVerdict, finalAt}
 use Rattle.calculations.proofs.Opened.{temperature-opened}
@@ -24,7 +25,7 @@ module _ (c : tie.After-temperature-gate) where
   start = c .before .before .before .before
 
   gated : c .temperature-gate .result ≡ toVerdict (call start) (start .args .destination .now)
-  unfolding toVerdict
+  unfolding toVerdict lengthTests
   gated = c .temperature-gate .ensures
 
   opened : c .temperature-gate .result ≡ Pass → (framePixels ≤ length (start .args .alpha .now)) × (start .args .basic-range < 8)

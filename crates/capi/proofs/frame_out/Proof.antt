@@ -1,10 +1,11 @@
 -- `capi::frame_out` meets its contract, for each case of the inner answer. Assumes nothing.
 use borrow.Author.Needs.{needs}
+use mathlib.Core.Path.{refl}
 use Rattle.capi.proofs.frame_out.Statement.{statement}
 use Rattle.capi.proofs.frame_out.Tie as tie
 
 returns : tie.Need-returns
-returns c = rw (c .before .frame .given .1)
+returns c = rw (c .before .frame .given .1) refl
 
 returns-2 : tie.Need-returns-2
 returns-2 c = rw (c .told .ensures, c .before .before .frame2 .given .1)

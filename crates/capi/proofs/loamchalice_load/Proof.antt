@@ -1,5 +1,6 @@
 -- `capi::loamchalice_load` meets its contract: the inner load's promise, and its answer as C has it. Assumes nothing.
 use borrow.Author.Needs.{needs}
+use mathlib.Core.Path.{refl}
 use Rattle.capi.proofs.loamchalice_load.Statement.{statement}
 use Rattle.capi.proofs.loamchalice_load.Tie as tie
 
@@ -9,7 +10,7 @@ returns c =
     record {
       inner = l .result;
       loads = l .ensures;
-      out = rw (c .record-out .ensures, c .before .told .ensures);
+      out = rw (c .record-out .ensures, c .before .told .ensures) refl;
     }
 
 pub loamchalice-load-spec : {M : Type 1} → statement M

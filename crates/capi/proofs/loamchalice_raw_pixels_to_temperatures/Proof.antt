@@ -1,14 +1,18 @@
 -- `capi::loamchalice_raw_pixels_to_temperatures` meets its contract: the inner call's promise, and its answer as C has it. Assumes nothing.
 use borrow.Author.Needs.{needs}
+use mathlib.Core.Path.{_≡_}
+use Rattle.capi.specs.Border.{subpageOf}
 use Rattle.capi.proofs.loamchalice_raw_pixels_to_temperatures.Statement.{statement}
 use Rattle.capi.proofs.loamchalice_raw_pixels_to_temperatures.Tie as tie
 
 returns : tie.Need-returns
 returns c =
     let l = c .before .before .before .raw-pixels-to-temperatures in
+    let o = c .before .before .before .before .before .before in
+    let p : o .subpage-of .result ≡ subpageOf (o .before .before .before .before .before .before .before .before .before .args .subpage) = o .subpage-of .ensures in
     record {
       inner = l .result;
-      kept = rw (c .before .before .before .before .before .before .before .before .record-in .ensures, c .before .before .before .before .before .before .before .ram-in .ensures, c .before .before .before .before .before .before .subpage-of .ensures, c .before .before .before .before .before .reflected-in .ensures) at (l .ensures);
+      kept = rw (c .before .before .before .before .before .before .before .before .record-in .ensures, c .before .before .before .before .before .before .before .ram-in .ensures, p, c .before .before .before .before .before .reflected-in .ensures) at (l .ensures);
       out = c .frame-out .ensures;
     }
 

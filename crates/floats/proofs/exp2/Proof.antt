@@ -14,10 +14,10 @@ float-from-bits-result-2 : tie.Need-float-from-bits-result-2
 float-from-bits-result-2 c = number-below 0x7F800000 (omega arith)
 
 returns : tie.Need-returns
-returns c = power-bits _ (c .if1 .taken)
+returns c = power-bits _ (omega arith)
 
 returns-2 : tie.Need-returns-2
-returns-2 c = infinity-bits ∙ sym (power-above _ (c .if1 .left))
+returns-2 c = infinity-bits ∙ sym (power-above _ (omega arith))
 
 pub exp2-spec : {M : Type 1} → statement M
 exp2-spec =

@@ -1,12 +1,19 @@
 -- `formulas::compensation` meets its contract: for each case. Assumes nothing.
 use borrow.Author.Needs.{needs}
+use mathlib.Core.Path.{_≡_, refl}
+use mir.Facts.{toZ-ofZ}
+use mir.Syntax.{w16}
+use mir.Val.{toZ, ofZ}
 use Rattle.formulas.specs.Inner.{compensationOf}
 use Rattle.formulas.proofs.compensation.Statement.{statement}
 use Rattle.formulas.proofs.compensation.Tie as tie
 
 returns : tie.Need-returns
 unfolding compensationOf
-returns c = rw (c .per-pixel-v-ir .ensures, c .before .before .before .before .gradient .given .1) (search needs)
+returns c =
+    let o = c .before .before .before .before .before .before .args .calibration .«offset_reference_cp» in
+    let e : toZ w16 (ofZ w16 o) ≡ o = toZ-ofZ {w = w16} (search needs) in
+    rw (c .per-pixel-v-ir .ensures, c .before .before .before .before .gradient .given .1, e) refl
 
 returns-2 : tie.Need-returns-2
 unfolding compensationOf

@@ -1,6 +1,6 @@
 -- `gates::divisor_stops` meets its contract: each test is one of the definition's. Assumes nothing.
 use borrow.Author.Needs.{needs}
-use mathlib.Core.Path.{_≡_, sym, ap, _∙_}
+use mathlib.Core.Path.{_≡_, refl, sym, ap, _∙_}
 use mathlib.Core.Bool.{false}
 use mir.Syntax.{w16}
 use mir.Val.{toZ, ofZ}
@@ -20,7 +20,7 @@ no-k-v-dd : (c : tie.Else1) → isZero (real (c .before .before .before .args .c
 no-k-v-dd c = sym (k-v-dd (c .before)) ∙ c .if1 .left
 
 no-gain : (c : tie.Else2) → isZero (real (c .before .before .before .before .before .before .args .ram .gain)) ≡ false
-no-gain c = sym (gain (c .before)) ∙ c .if2 .left
+no-gain c = _∙_ {c = false} (sym (gain (c .before))) (c .if2 .left)
 
 correction : (c : tie.After-ptat-correction) → isZero (c .ptat-correction .result) ≡ isZero (ptatCorrectionOf (c .before .before .before .before .before .before .before .before .before .before .args .calibration) (deltaOf (c .before .before .before .before .before .before .before .before .before .before .args .calibration) (c .before .before .before .before .before .before .before .before .before .before .args .ram)))
 correction c = ap isZero (c .ptat-correction .ensures ∙ ap (ptatCorrectionOf (c .before .before .before .before .before .before .before .before .before .before .args .calibration)) (c .before .delta-v .ensures))
@@ -51,7 +51,7 @@ returns-5 c =
       c .before .before .before .before .if3 .left,
       sym (correction (c .before .before)) ∙ c .before .if4 .left,
       c .ptat-denominator .ensures,
-    )
+    ) refl
 
 pub divisor-stops-spec : {M : Type 1} → statement M
 divisor-stops-spec =

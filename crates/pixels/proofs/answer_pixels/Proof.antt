@@ -29,7 +29,7 @@ loop-holds : tie.Need-loop-holds Inv-loop μ-loop
 loop-holds c = steps.start _ _ _ _ _
 
 loop-again : tie.Need-loop-again Inv-loop μ-loop
-loop-again c = kept _ _ _ (c .before .before .before .loop .inv) (c .before .before .loop-test .taken) (sym (c .before .masked .ensures) ∙ not-true _ (c .if1 .taken))
+loop-again c = kept _ _ _ (c .before .before .before .loop .inv) (omega arith) (sym (c .before .masked .ensures) ∙ not-true _ (c .if1 .taken))
 
 asked : (c : tie.Else1 Inv-loop μ-loop) → touched (c .before .before .before .before .before .before .before .args .mask .now) (c .before .before .before .loop .k) ≡ true
 asked c = sym (c .before .masked .ensures) ∙ not-false _ (c .if1 .left)
@@ -51,14 +51,14 @@ loop-again-2 c =
     let p = c .before .before in
     let e = answered p ∙ c .enum-told .given .1 in
     let l = p .before .before .before .before .before in
-    missed _ _ _ (l .before .before .loop .inv) (l .before .loop-test .taken) (asked (p .before .before .before .before)) (answer-lost _ _ ∙ ap isLost e) (sym (ap answerBits e))
+    missed _ _ _ (l .before .before .loop .inv) (omega arith) (asked (p .before .before .before .before)) (answer-lost _ _ ∙ ap isLost e) (sym (ap answerBits e))
 
 loop-again-3 : tie.Need-loop-again-3 Inv-loop μ-loop
 loop-again-3 c =
     let p = c .before .before .before .before in
     let e = answered p ∙ c .before .before .answer .given .1 in
     let l = p .before .before .before .before .before in
-    told _ _ _ (l .before .before .loop .inv) (l .before .loop-test .taken) (asked (p .before .before .before .before)) (answer-lost _ _ ∙ ap isLost e) (c .to-bits .ensures ∙ sym (ap answerBits e))
+    told _ _ _ (l .before .before .loop .inv) (omega arith) (asked (p .before .before .before .before)) (answer-lost _ _ ∙ ap isLost e) (c .to-bits .ensures ∙ sym (ap answerBits e))
 
 returns : tie.Need-returns Inv-loop μ-loop
 returns c =

@@ -1,5 +1,6 @@
 -- `pixels::infrared_at` meets its contract: its callees' contracts, one after the other. Assumes nothing.
 use borrow.Author.Needs.{needs, sfits-of}
+use mathlib.Core.Path.{refl}
 use mir.Facts.{toZ-ofZ}
 use mir.Syntax.{w16}
 use Rattle.pixels.specs.Inner.{rawAt}
@@ -15,7 +16,7 @@ returns c =
       c .before .before .before .before .real .ensures,
       c .before .before .before .before .before .before .reading-at .ensures,
       toZ-ofZ {w = w16} (sfits-of (c .before .before .before .before .before .real-arg .given)),
-    )
+    ) refl
 
 pub infrared-at-spec : {M : Type 1} → statement M
 infrared-at-spec =

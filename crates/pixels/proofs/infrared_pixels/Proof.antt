@@ -27,7 +27,7 @@ loop-holds : tie.Need-loop-holds Inv-loop μ-loop
 loop-holds c = steps.start _ _ _ _ _
 
 loop-again : tie.Need-loop-again Inv-loop μ-loop
-loop-again c = kept _ _ _ (c .before .before .before .loop .inv) (c .before .before .loop-test .taken) (sym (c .before .masked .ensures) ∙ not-true _ (c .if1 .taken))
+loop-again c = kept _ _ _ (c .before .before .before .loop .inv) (omega arith) (sym (c .before .masked .ensures) ∙ not-true _ (c .if1 .taken))
 
 asked : (c : tie.Else1 Inv-loop μ-loop) → touched (c .before .before .before .before .before .before .before .before .before .args .mask .now) (c .before .before .before .loop .i) ≡ true
 asked c = sym (c .before .masked .ensures) ∙ not-false _ (c .if1 .left)
@@ -43,14 +43,14 @@ loop-again-2 : tie.Need-loop-again-2 Inv-loop μ-loop
 loop-again-2 c =
     let a = c .before in
     let lost = differs _ (c .if2 .taken) in
-    missed _ _ _ (a .before .before .before .before .loop .inv) (a .before .before .before .loop-test .taken) (asked (a .before))
+    missed _ _ _ (a .before .before .before .before .loop .inv) (omega arith) (asked (a .before))
     (loses a ∙ lost)
     (sym (ap (toBits binary32) (sym (a .infrared-at .ensures) ∙ is-nan _ lost) ∙ nan-bits))
 
 loop-again-3 : tie.Need-loop-again-3 Inv-loop μ-loop
 loop-again-3 c =
     let a = c .before .before in
-    told _ _ _ (a .before .before .before .before .loop .inv) (a .before .before .before .loop-test .taken) (asked (a .before))
+    told _ _ _ (a .before .before .before .before .loop .inv) (omega arith) (asked (a .before))
     (loses a ∙ agrees _ (c .before .if2 .left))
     (c .to-bits .ensures ∙ ap (toBits binary32) (a .infrared-at .ensures))
 
