@@ -3,7 +3,7 @@
 use std::sync::OnceLock;
 
 #[path = "../bindings/rust/src/border.rs"]
-mod border;
+pub mod border;
 use border::{Heat, Reading};
 pub use border::{Answer, Load, Part, Ram, Record, Word};
 

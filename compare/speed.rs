@@ -1,4 +1,4 @@
-//! Nanoseconds a frame and a load: the crate as published, the rooted one and the library, over cards/sound.bin and a room's pixels.
+//! Nanoseconds a frame, a load and a word: the crate as published, the rooted one and the library, over cards/sound.bin and a room's pixels.
 //! All three take turns, so that a busy machine slows them alike; each figure is the least of many rounds. What they write is compared first.
 #[allow(dead_code)]
 mod library;
@@ -9,6 +9,7 @@ use std::time::Instant;
 
 const FRAMES: usize = 10_000;
 const LOADS: usize = 2_000;
+const SWEEPS: usize = 10;
 const ROUNDS: usize = 15;
 const IMAGE: &[u8] = include_bytes!("../cards/sound.bin");
 
@@ -17,11 +18,17 @@ macro_rules! subject {
         mod $name {
             use crate::library::Frame;
             use $subject::calculations::{self, RamData};
+            use $subject::mlx90641::hamming::validate_checksum;
             use $subject::mlx90641::{Mlx90641, Mlx90641Calibration};
             use $subject::{AccessPattern, MelexisCamera, Subpage};
 
             pub fn load(image: &[u8]) -> Mlx90641Calibration {
                 Mlx90641Calibration::from_data(image).unwrap()
+            }
+
+            #[inline(never)]
+            pub fn check(word: u16) -> Option<u16> {
+                validate_checksum(word).ok()
             }
 
             fn ram(f: &Frame) -> RamData {
@@ -93,6 +100,20 @@ fn frames() -> Vec<Frame> {
         .collect()
 }
 
+/// Every word once, by what its check finds: clean, mended or damaged.
+fn words() -> [Vec<u16>; 3] {
+    let mut classes = [const { Vec::new() }; 3];
+    for word in 0..=u16::MAX {
+        let class = match published::check(word) {
+            Some(data) if library::border::encode(data).word == word => 0,
+            Some(_) => 1,
+            None => 2,
+        };
+        classes[class].push(word);
+    }
+    classes
+}
+
 fn time(n: usize, mut work: impl FnMut(usize)) -> f64 {
     let start = Instant::now();
     for k in 0..n {
@@ -102,8 +123,9 @@ fn time(n: usize, mut work: impl FnMut(usize)) -> f64 {
 }
 
 fn line(what: &str, [published, rooted, ours]: [f64; 3]) {
+    let digits = if ours < 100.0 { 1 } else { 0 };
     println!(
-        "{what}\tcrate as published {published:.0} ns\trooted crate {rooted:.0} ns\tlibrary {ours:.0} ns\tlibrary / published {:.2}\tlibrary / rooted {:.2}",
+        "{what}\tcrate as published {published:.digits$} ns\trooted crate {rooted:.digits$} ns\tlibrary {ours:.digits$} ns\tlibrary / published {:.2}\tlibrary / rooted {:.2}",
         ours / published,
         ours / rooted
     );
@@ -123,7 +145,8 @@ fn main() {
     let v_ir = a;
     let v_ir_bits = v_ir.map(f32::to_bits);
     let mut tables = frames[0].tables.clone();
-    let mut least = [[f64::MAX; 3]; 4];
+    let words = words();
+    let mut least = [[f64::MAX; 3]; 7];
     let keep = |slot: &mut f64, t: f64| *slot = slot.min(t);
     for _ in 0..ROUNDS {
         let pass = &mut least[0];
@@ -143,10 +166,19 @@ fn main() {
         keep(&mut load[0], time(LOADS, |_| { black_box(published::load(black_box(IMAGE))); }));
         keep(&mut load[1], time(LOADS, |_| { black_box(rooted::load(black_box(IMAGE))); }));
         keep(&mut load[2], time(LOADS, |_| { black_box(library::load(black_box(IMAGE), black_box(&mut tables))); }));
+        for (words, check) in words.iter().zip(&mut least[4..]) {
+            let each = words.len() as f64;
+            keep(&mut check[0], time(SWEEPS, |_| words.iter().for_each(|&word| { black_box(published::check(word)); })) / each);
+            keep(&mut check[1], time(SWEEPS, |_| words.iter().for_each(|&word| { black_box(rooted::check(word)); })) / each);
+            keep(&mut check[2], time(SWEEPS, |_| words.iter().for_each(|&word| { black_box(library::border::check(word)); })) / each);
+        }
     }
-    println!("least of {ROUNDS} rounds; {FRAMES} frames and {LOADS} loads in each");
+    println!("least of {ROUNDS} rounds; {FRAMES} frames, {LOADS} loads and {SWEEPS} times every word in each");
     line("one pass, a frame", least[0]);
     line("of it, pixels to infrared", least[1]);
     line("of it, infrared to temperature", least[2]);
     line("load, a card", least[3]);
+    line("check, a word that is clean", least[4]);
+    line("check, a word that is mended", least[5]);
+    line("check, a word that is damaged", least[6]);
 }

@@ -2,6 +2,7 @@
 mod Xor
 mod Linear
 mod Codes
+mod Folds
 mod Put
 mod Table
 pub mod Answers

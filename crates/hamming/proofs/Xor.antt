@@ -1,8 +1,8 @@
--- Exclusive or: of single bits, undone by itself, and associative. Assumes nothing.
+-- Exclusive or: of single bits, undone by itself, associative, and under a mask. Assumes nothing.
 use mathlib.Core.Path.{_≡_, refl, sym, ap, ap₂, _∙_}
 use Prim.Native.Nat.{ℕ, zero, suc, _+_, _*_, _/_, _%_, _<_}
 use native.Mathlib.Nat.{mod-lt, zero-lt-suc, le-of-suc-le-suc, not-suc-le-zero, div-add-mod'}
-use lib.Bits.{bitXor, xor-mod, xor-shr, xor-self}
+use lib.Bits.{bitAnd, bitXor, and-zero-r, xor-comm, and-mod, and-shr, xor-mod, xor-shr, xor-self}
 use lib.Arith.{bin-ind}
 
 -- a claim of a bit, by cases
@@ -54,3 +54,29 @@ xor-assoc a =
     ∙ assoc-bits (n % 2) (b % 2) (c % 2) (mod-lt n (zero-lt-suc 1)) (mod-lt b (zero-lt-suc 1)) (mod-lt c (zero-lt-suc 1))
     ∙ sym (xor-mod n (bitXor b c) 1 ∙ ap (λ (x : ℕ). bitXor (n % 2) x) (xor-mod b c 1)))
     ∙ div-add-mod' (bitXor n (bitXor b c)) 2) a
+
+pub xor-swap : (a b c d : ℕ) → bitXor (bitXor a b) (bitXor c d) ≡ bitXor (bitXor a c) (bitXor b d)
+xor-swap a b c d =
+    xor-assoc a b (bitXor c d) ∙ ap (bitXor a) (sym (xor-assoc b c d) ∙ ap (λ (x : ℕ). bitXor x d) (xor-comm b c) ∙ xor-assoc c b d)
+    ∙ sym (xor-assoc a c (bitXor b d))
+
+and-bits : (x y z : ℕ) → x < 2 → y < 2 → z < 2 → bitAnd (bitXor x y) z ≡ bitXor (bitAnd x z) (bitAnd y z)
+and-bits x y z hx hy hz =
+    bit (λ (x : ℕ). bitAnd (bitXor x y) z ≡ bitXor (bitAnd x z) (bitAnd y z))
+    (bit (λ (y : ℕ). bitAnd (bitXor 0 y) z ≡ bitXor (bitAnd 0 z) (bitAnd y z)) refl refl y hy)
+    (bit (λ (y : ℕ). bitAnd (bitXor 1 y) z ≡ bitXor (bitAnd 1 z) (bitAnd y z))
+    (bit (λ (z : ℕ). bitAnd (bitXor 1 0) z ≡ bitXor (bitAnd 1 z) (bitAnd 0 z)) refl refl z hz)
+    (bit (λ (z : ℕ). bitAnd (bitXor 1 1) z ≡ bitXor (bitAnd 1 z) (bitAnd 1 z)) refl refl z hz) y hy) x hx
+
+pub and-xor : (m a b : ℕ) → bitAnd (bitXor a b) m ≡ bitXor (bitAnd a m) (bitAnd b m)
+and-xor m =
+    bin-ind (λ (n : ℕ). (a b : ℕ) → bitAnd (bitXor a b) n ≡ bitXor (bitAnd a n) (bitAnd b n))
+    (λ a b. and-zero-r (bitXor a b) ∙ sym (ap₂ bitXor (and-zero-r a) (and-zero-r b)))
+    (λ n ih a b. sym (div-add-mod' (bitAnd (bitXor a b) n) 2)
+    ∙ ap₂ (λ (x y : ℕ). x * 2 + y)
+    (and-shr (bitXor a b) n 1 ∙ ap (λ (x : ℕ). bitAnd x (n / 2)) (xor-shr a b 1) ∙ ih (a / 2) (b / 2)
+    ∙ sym (xor-shr (bitAnd a n) (bitAnd b n) 1 ∙ ap₂ bitXor (and-shr a n 1) (and-shr b n 1)))
+    (and-mod (bitXor a b) n 1 ∙ ap (λ (x : ℕ). bitAnd x (n % 2)) (xor-mod a b 1)
+    ∙ and-bits (a % 2) (b % 2) (n % 2) (mod-lt a (zero-lt-suc 1)) (mod-lt b (zero-lt-suc 1)) (mod-lt n (zero-lt-suc 1))
+    ∙ sym (xor-mod (bitAnd a n) (bitAnd b n) 1 ∙ ap₂ bitXor (and-mod a n 1) (and-mod b n 1)))
+    ∙ div-add-mod' (bitXor (bitAnd a n) (bitAnd b n)) 2) m

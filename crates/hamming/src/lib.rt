@@ -2,7 +2,7 @@
 ghost use mathlib.Core.Path.{_≡_};
 ghost use Prim.Native.Nat.{_<_};
 ghost use Rattle.hamming.specs.Word.{parity, dataValues, encoded};
-ghost use Rattle.hamming.specs.Inner.{syndromeOf};
+ghost use Rattle.hamming.specs.Inner.{syndromeOf, spread};
 ghost use Rattle.hamming.specs.Answer.{encodeAnswer, checkAnswer};
 use refusal::Refusal;
 
@@ -19,25 +19,18 @@ pub enum Checked {
 // Data are 11 bits.
 pub const DATA_VALUES: u16 = 2048;
 
-// The bit that a syndrome from 16 on points at, as a mask.
-const FLIP: [u16; 16] = [
-    0x8000,
-    0x0800,
-    0x1000,
-    0x0001,
-    0x2000,
-    0x0002,
-    0x0004,
-    0x0008,
-    0x4000,
-    0x0010,
-    0x0020,
-    0x0040,
-    0x0080,
-    0x0100,
-    0x0200,
-    0x0400,
-];
+// A one in each of five bytes: a byte for each check bit, P0 lowest.
+const EACH: u64 = 0x01_0101_0101;
+// The bits that each check bit is over, and itself: those of the word's low byte, and those of its high byte.
+const LOW: u64 = 0xFF_F08E_6D5B;
+
+const HIGH: u64 = 0xFF_4727_160D;
+// The one that stands for P4.
+const P4: u64 = 0x01_0000_0000;
+// A factor that puts those for P0 to P3 side by side, from bit 24 on.
+const BESIDE: u64 = 0x0102_0408;
+// Where P4 is odd, the bit that P0 to P3 point at: a hexadecimal digit for each of their 16 values, that for 0 lowest.
+const POINTED: u64 = 0xA987_654E_321D_0CBF;
 
 // 1 where the word has an odd number of ones under the mask, else 0.
 fn odd(word: u16, mask: u16) -> u16
@@ -60,16 +53,18 @@ fn with_checks(data: u16) -> u16
     word | (p4 << 15)
 }
 
-// For each check bit, P4 first, whether the ones under its mask and itself are odd in number.
-fn syndrome(word: u16) -> usize
-    ensures { λ r. ⌜ r ≡ syndromeOf word ⌝ }
+// For each check bit, in a byte of its own, 1 where the ones under its mask and itself are odd in number. Five bytes are folded at once,
+// each onto its lowest bit.
+fn odd_bytes(word: u16) -> u64
+    ensures { λ r. ⌜ r ≡ spread (syndromeOf word) ⌝ }
 {
-    let p0 = odd(word, 0x0D5B) as usize;
-    let p1 = odd(word, 0x166D) as usize;
-    let p2 = odd(word, 0x278E) as usize;
-    let p3 = odd(word, 0x47F0) as usize;
-    let p4 = odd(word, 0xFFFF) as usize;
-    (((p4 * 2 + p3) * 2 + p2) * 2 + p1) * 2 + p0
+    let low = ((word % 256) as u64 * EACH) & LOW;
+    let high = ((word / 256) as u64 * EACH) & HIGH;
+    let ones = low ^ high;
+    let four = ones ^ (ones >> 4);
+    let two = four ^ (four >> 2);
+    let one = two ^ (two >> 1);
+    one & EACH
 }
 
 // The chip word of the data, which is refused above 2047.
@@ -87,15 +82,17 @@ pub fn encode(data: u16) -> Encoded
 pub fn check(word: u16) -> Checked
     ensures { λ r. ⌜ r ≡ checkAnswer word ⌝ }
 {
-    let s = syndrome(word);
-    if s == 0 {
+    let odd = odd_bytes(word);
+    if odd == 0 {
         return Checked::Data(word % DATA_VALUES);
     }
-    if s < 16 {
+    if odd < P4 {
         return Checked::Refused(Refusal::DamagedWord {
             word: 0,
             bits: word,
         });
     }
-    Checked::Data((word ^ FLIP[s % 16]) % DATA_VALUES)
+    let value = ((odd * BESIDE) >> 24) % 16;
+    let bit = (POINTED >> (value * 4)) % 16;
+    Checked::Data((word ^ (1 << bit)) % DATA_VALUES)
 }
