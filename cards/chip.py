@@ -1,4 +1,4 @@
-"""What document 01 says of a card, in Python: the chip word, and what a load answers. Written from that document alone, apart from the crates,
+"""What document 01 says of a card, in Python, as document 02 mends it: the chip word, and what a load answers. Written from that document alone, apart from the crates,
 to make cards and expected lines with. A number is a Fraction, or None for infinity; nothing here gives a zero below zero."""
 from fractions import Fraction
 
@@ -100,7 +100,7 @@ def offset_entry(w, entry):
     """raw × 2^scale, and its sum with the average."""
     raw = signed(11, w[64 + entry] if entry < 192 else w[640 + entry - 192])
     part = raw * 2 ** (w[16] >> 5)
-    return part, signed(11, combined(w[17], w[18])) + part
+    return part, signed(16, combined(w[17], w[18])) + part
 
 
 def fits(z):

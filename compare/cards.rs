@@ -1,13 +1,12 @@
 //! Cards: the record and the tables against the crate as published, refusals against document 01 and the crate's errors and panics.
-use crate::document::{self, Code, Verdict};
+//! Where the crate's offset average is not the papers', document.rs judges verdict and offsets, and the crate the rest.
+use crate::document::{self, Code, Data, Verdict};
 use crate::library::{self, Load, Record, Tables};
 use crate::numbers::Numbers;
 use crate::tally::{of_crate, progress, Tally};
 use mlx9064x::error::LibraryError;
 use mlx9064x::mlx90641::Mlx90641Calibration;
 use mlx9064x::{CalibrationData, Subpage};
-
-pub type Data = [u16; 832];
 
 /// The data of cards/sound.bin.
 pub fn sound() -> Data {
@@ -28,6 +27,42 @@ fn bits11(z: i32) -> u16 {
     z.rem_euclid(2048) as u16
 }
 
+/// The two words of an average.
+fn halves(average: i32) -> (u16, u16) {
+    let bits = average.rem_euclid(65536) as u16;
+    (bits >> 5, bits & 31)
+}
+
+/// Who judges a card's verdict and offsets.
+#[derive(Clone, Copy, PartialEq)]
+pub enum Oracle {
+    Crate,
+    Papers,
+}
+
+fn crate_average(data: &Data) -> i32 {
+    document::signed(11, data[17] * 32 | data[18])
+}
+
+fn oracle(data: &Data) -> Oracle {
+    if crate_average(data) == document::average(data) {
+        Oracle::Crate
+    } else {
+        Oracle::Papers
+    }
+}
+
+/// The same card with scale, average and raw offsets 0: the crate loads it whatever they were, to the same record and other tables.
+fn plain_offsets(data: &Data, image: &[u8]) -> Vec<u8> {
+    let mut plain = image.to_vec();
+    let mut put = |word: usize, data: u16| plain[2 * word..2 * word + 2].copy_from_slice(&document::encode(data).to_be_bytes());
+    put(16, data[16] % 32);
+    for word in (17..19).chain(64..256).chain(640..832) {
+        put(word, 0);
+    }
+    plain
+}
+
 /// The sound card with raw offsets of 0 but for one, at a word.
 pub fn offset_card(scale: u16, average: i32, raw: i32, place: usize) -> Data {
     let mut data = sound();
@@ -35,7 +70,7 @@ pub fn offset_card(scale: u16, average: i32, raw: i32, place: usize) -> Data {
         data[k] = 0;
     }
     data[16] = scale << 5;
-    (data[17], data[18]) = (bits11(average) >> 5, bits11(average) & 31);
+    (data[17], data[18]) = halves(average);
     data[place] = bits11(raw);
     data
 }
@@ -45,7 +80,7 @@ pub fn realistic(n: &mut Numbers) -> Data {
     let mut w = sound();
     w[16] = (n.below(5) as u16) << 5 | n.below(32) as u16;
     let average = n.between(-400, 400);
-    (w[17], w[18]) = (bits11(average) >> 5, bits11(average) & 31);
+    (w[17], w[18]) = halves(average);
     w[21] = bits11(n.between(10, 120));
     w[22] = (n.between(10, 15) as u16) << 5 | n.below(4) as u16;
     w[23] = bits11(n.between(200, 600));
@@ -95,13 +130,13 @@ fn boundary(n: &mut Numbers) -> Data {
     let mut w = if n.one_in(2) { realistic(n) } else { [0; 832] };
     let scale = n.between(0, 18).min(63) as u16;
     w[16] = (if n.one_in(8) { n.below(64) as u16 } else { scale }) << 5 | n.below(32) as u16;
-    let average = n.pick(&[0, -1, 1, -1024, 1023, -1023, 1022, 512, -512]);
-    (w[17], w[18]) = (bits11(average) >> 5, bits11(average) & 31);
+    let average = n.pick(&[0, -1, 1, -1024, 1023, -1023, 1022, 512, -512, 1024, -1025, 2047, -2048, 32767, -32768]);
+    (w[17], w[18]) = halves(average);
     if n.one_in(4) {
         (w[17], w[18]) = (n.below(2048) as u16, n.below(2048) as u16);
     }
     let power = 1i32 << (w[16] >> 5).min(14);
-    let average = document::signed(11, w[17] * 32 | w[18]);
+    let average = document::average(&w);
     for _ in 0..n.between(0, 6) {
         let limit = n.pick(&[32767, -32768]) - if n.one_in(2) { average } else { 0 };
         let raw = (limit / power + n.between(-2, 2)).clamp(-1024, 1023);
@@ -290,8 +325,18 @@ fn unchanged(before: &Tables, after: &Tables, from: usize) -> bool {
             .all(|(b, a)| bits(&b[from.min(b.len())..]) == bits(&a[from.min(a.len())..]))
 }
 
-// The first field or entry in which a good load differs from the crate's.
-fn difference(c: &Mlx90641Calibration, r: &Record, t: &Tables) -> Option<String> {
+/// The crate's offsets, both subpages.
+fn offsets_of(c: &Mlx90641Calibration) -> [Vec<i32>; 2] {
+    [Subpage::Zero, Subpage::One].map(|subpage| c.offset_reference_pixels(subpage).map(|x| i32::from(*x)).collect())
+}
+
+/// The papers' offsets, both subpages.
+fn offsets_by_papers(data: &Data) -> [Vec<i32>; 2] {
+    [0, 192].map(|first| (first..first + 192).map(|entry| document::offset(data, entry)).collect())
+}
+
+// The first field or entry in which a good load differs from the crate's record and tables, and from the offsets.
+fn difference(c: &Mlx90641Calibration, offsets: &[Vec<i32>; 2], r: &Record, t: &Tables) -> Option<String> {
     let whole = [
         ("k_v_dd", c.k_v_dd(), r.k_v_dd),
         ("v_dd_25", c.v_dd_25(), r.v_dd_25),
@@ -332,14 +377,12 @@ fn difference(c: &Mlx90641Calibration, r: &Record, t: &Tables) -> Option<String>
             return Some(format!("{name} (number {k}): crate {a:?} 0x{:08X}, library {b:?} 0x{:08X}", a.to_bits(), b.to_bits()));
         }
     }
-    for (s, subpage) in [Subpage::Zero, Subpage::One].into_iter().enumerate() {
-        for (k, (a, b)) in c.offset_reference_pixels(subpage).zip(&t.offsets[s]).enumerate() {
-            if a != b {
-                return Some(format!("offset {k} of subpage {s}: crate {a}, library {b}"));
+    for (s, (expected, got)) in offsets.iter().zip(&t.offsets).enumerate() {
+        assert_eq!(expected.len(), 192, "192 offsets");
+        for (k, (a, b)) in expected.iter().zip(got).enumerate() {
+            if *a != i32::from(*b) {
+                return Some(format!("offset {k} of subpage {s}: expected {a}, library {b}"));
             }
-        }
-        if c.offset_reference_pixels(subpage).len() != 192 {
-            return Some("the crate has no 192 offsets".to_string());
         }
     }
     None
@@ -354,7 +397,7 @@ fn all_zero(r: &Record) -> bool {
 
 // What the crate did, and whether it fits the verdict. It reads on from word 16 and stops at what it meets first: a panic in its own
 // arithmetic comes before damage only where the offsets that panic stand before the damaged word.
-pub fn fits(code: &Code, image: &[u8], verdict: Verdict, answer: &Option<Result<Mlx90641Calibration, LibraryError>>) -> (bool, &'static str) {
+fn fits(code: &Code, image: &[u8], verdict: Verdict, answer: &Option<Result<Mlx90641Calibration, LibraryError>>) -> (bool, &'static str) {
     match (verdict.0, answer) {
         (0, Some(Ok(_))) => (true, "crate good"),
         (2, _) => (true, "crate not asked: it has no such tables"),
@@ -369,24 +412,53 @@ pub fn fits(code: &Code, image: &[u8], verdict: Verdict, answer: &Option<Result<
 
 fn panics_before(code: &Code, image: &[u8], damaged: usize) -> bool {
     let mut image = image[..1664].to_vec();
-    for k in damaged..832 {
-        image[2 * k] = 0;
-        image[2 * k + 1] = 0;
+    image[2 * damaged..].fill(0);
+    let data = code.data(&image).expect("damage comes later");
+    if data[16] / 32 >= 15 {
+        return damaged >= 64;
     }
-    match code.load(&image, 192) {
-        (4, _, _) => damaged >= 64,
-        (5, entry, _) => damaged > if entry < 192 { 64 + entry as usize } else { 640 + entry as usize - 192 },
-        _ => false,
+    let overflows = |entry: &usize| {
+        let part = document::product(&data, *entry);
+        i16::try_from(part).is_err() || i16::try_from(crate_average(&data) + part).is_err()
+    };
+    (0..384).find(overflows).is_some_and(|entry| damaged > document::word_of(entry))
+}
+
+/// The crate's load of the card, its offsets, and the verdict's class: where the papers judge, the crate loads the card with plain offsets.
+pub struct Asked {
+    pub answer: Option<Result<Mlx90641Calibration, LibraryError>>,
+    pub offsets: Option<[Vec<i32>; 2]>,
+    pub as_expected: bool,
+    pub did: &'static str,
+    pub oracle: Oracle,
+}
+
+pub fn ask(code: &Code, image: &[u8], verdict: Verdict) -> Asked {
+    let load = |image: &[u8]| of_crate(|| Mlx90641Calibration::from_data(image));
+    let data = if matches!(verdict.0, 0 | 4 | 5) { code.data(image).ok() } else { None };
+    if let Some(data) = data.filter(|data| oracle(data) == Oracle::Papers) {
+        let did = match load(image) {
+            Some(Ok(_)) => "papers judge; crate good",
+            Some(Err(_)) => "papers judge; crate error",
+            None => "papers judge; crate panics",
+        };
+        let answer = if verdict.0 == 0 { load(&plain_offsets(&data, image)) } else { None };
+        let offsets = (verdict.0 == 0).then(|| offsets_by_papers(&data));
+        return Asked { answer, offsets, as_expected: true, did, oracle: Oracle::Papers };
     }
+    let answer = if verdict.0 == 2 { None } else { load(image) };
+    let (as_expected, did) = fits(code, image, verdict, &answer);
+    let offsets = if let Some(Ok(c)) = &answer { Some(offsets_of(c)) } else { None };
+    Asked { answer, offsets, as_expected, did, oracle: Oracle::Crate }
 }
 
 fn judge(tally: &mut Tally, code: &Code, class: &str, image: &[u8], before: &Tables, label: &str) {
     let mut after = before.clone();
     let loaded: Load = library::load(image, &mut after);
     let verdict = code.load(image, before.shortest());
-    let answer = if verdict.0 == 2 { None } else { of_crate(|| Mlx90641Calibration::from_data(image)) };
-    let (as_expected, did) = fits(code, image, verdict, &answer);
+    let Asked { answer, offsets, as_expected, did, oracle } = ask(code, image, verdict);
     let number = verdict.0;
+    tally.count(if oracle == Oracle::Crate { "cards, the crate is the oracle" } else { "cards, the papers judge verdict and offsets" });
     tally.count(&format!("cards, {class}"));
     tally.count(&format!("cards, verdict {number}, {did}"));
     if !as_expected {
@@ -405,12 +477,14 @@ fn judge(tally: &mut Tally, code: &Code, class: &str, image: &[u8], before: &Tab
         }
         return;
     }
-    if let Some(Ok(c)) = &answer {
-        if let Some(what) = difference(c, &loaded.calibration, &after) {
+    if let (Some(Ok(c)), Some(offsets)) = (&answer, &offsets) {
+        if let Some(what) = difference(c, offsets, &loaded.calibration, &after) {
             tally.disagree(|| format!("{label}, {class}: {what}"));
         }
         let odd = after.alpha[..192].iter().chain(&after.k_v[..192]).chain(&after.k_ta[..192]).filter(|x| !x.is_finite()).count();
         tally.add("card entries that are infinite or not a number", odd as u64);
+    } else {
+        tally.disagree(|| format!("{label}, {class}: loads, and the crate has no record to compare"));
     }
 }
 
@@ -432,7 +506,7 @@ fn in_order(tally: &mut Tally, code: &Code, n: &mut Numbers) {
         }
     }
     for scale in 0..64 {
-        for average in [0, 1, -1, 1023, -1024] {
+        for average in [0, 1, -1, 1023, -1024, 1024, -1025, 32767, -32768] {
             for raw in [0, 1, -1, 2, -2, 1023, -1024] {
                 for place in [64, 255, 640, 831] {
                     let data = offset_card(scale, average, raw, place);

@@ -1,8 +1,11 @@
-//! What document 01 says of chip words and of what stops a call, written from that document alone.
+//! What document 01 says of chip words, of offsets and of what stops a call, as document 02 mends it; written from the documents alone.
 use crate::library::{Frame, Record};
 
 /// Number, place and value; all 0 for none.
 pub type Verdict = (u64, u64, u64);
+
+/// The data of a card's words; 0 where a word is not checked.
+pub type Data = [u16; 832];
 
 pub struct Code {
     data: Vec<Option<u16>>,
@@ -34,14 +37,8 @@ impl Code {
         self.data[usize::from(word)]
     }
 
-    /// What stops a load.
-    pub fn load(&self, image: &[u8], shortest: usize) -> Verdict {
-        if image.len() < 1664 {
-            return (1, image.len() as u64, 0);
-        }
-        if shortest < 192 {
-            return (2, 0, 0);
-        }
+    /// The data of an image of 1,664 bytes, or the refusal of its first damaged word.
+    pub fn data(&self, image: &[u8]) -> Result<Data, Verdict> {
         let mut data = [0u16; 832];
         for (k, slot) in data.iter_mut().enumerate() {
             let word = u16::from(image[2 * k]) * 256 + u16::from(image[2 * k + 1]);
@@ -50,23 +47,58 @@ impl Code {
             }
             match self.check(word) {
                 Some(d) => *slot = d,
-                None => return (3, k as u64, u64::from(word)),
+                None => return Err((3, k as u64, u64::from(word))),
             }
         }
+        Ok(data)
+    }
+
+    /// What stops a load.
+    pub fn load(&self, image: &[u8], shortest: usize) -> Verdict {
+        if image.len() < 1664 {
+            return (1, image.len() as u64, 0);
+        }
+        if shortest < 192 {
+            return (2, 0, 0);
+        }
+        let data = match self.data(image) {
+            Ok(data) => data,
+            Err(damaged) => return damaged,
+        };
         let scale = data[16] / 32;
         if scale >= 15 {
             return (4, u64::from(scale), 0);
         }
-        let average = signed(11, data[17] * 32 | data[18]);
         for entry in 0..384 {
-            let raw = signed(11, data[if entry < 192 { 64 + entry } else { 640 + entry - 192 }]);
-            let part = raw * (1 << scale);
-            if i16::try_from(part).is_err() || i16::try_from(average + part).is_err() {
+            if i16::try_from(product(&data, entry)).is_err() || i16::try_from(offset(&data, entry)).is_err() {
                 return (5, entry as u64, 0);
             }
         }
         (0, 0, 0)
     }
+}
+
+/// The word of an entry, which is 192 times the subpage plus the pixel.
+pub fn word_of(entry: usize) -> usize {
+    if entry < 192 {
+        64 + entry
+    } else {
+        640 + entry - 192
+    }
+}
+
+/// Raw × 2^scale.
+pub fn product(data: &Data, entry: usize) -> i32 {
+    signed(11, data[word_of(entry)]) * (1 << (data[16] / 32))
+}
+
+/// The average, 16 bits signed.
+pub fn average(data: &Data) -> i32 {
+    signed(16, data[17] * 32 | data[18])
+}
+
+pub fn offset(data: &Data, entry: usize) -> i32 {
+    average(data) + product(data, entry)
 }
 
 pub fn signed(width: u32, x: u16) -> i32 {

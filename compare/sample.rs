@@ -1,7 +1,8 @@
 //! Writes what crates/replay replays: cases with the answers of the crate mlx9064x 0.2.1.
 //!   sample FOLDER
 //! Chip words, records, tables and infrared numbers are those of the crate as published, temperatures those of the rooted one. What
-//! stops a call is worked out by document.rs, and must fit what the crate does there. The library is not linked: of library.rs only the types
+//! stops a call is worked out by document.rs, and must fit what the crate does there; so are a card's offsets where the crate's average is not
+//! the papers', and such a card says so. The library is not linked: of library.rs only the types
 //! are used here.
 //! The stream is cases one after another, every number big-endian, a not-a-number of an answer as 0x7FC00000, a pixel that is left as its
 //! bits before. A case is a head of 16 bytes (kind, what the crate did, what is given, answer, value, number, place), and then: for a card its
@@ -21,16 +22,14 @@ mod tally;
 
 include!("subjects.rs");
 
-use cards::{by_crate, image_of, offset_card, record_of, sound, tables_of, Data};
-use document::{Code, Verdict};
+use cards::{by_crate, image_of, offset_card, record_of, sound, tables_of, Oracle};
+use document::{Code, Data, Verdict};
 use frames::{of_call, Said};
 use library::{Frame, Record, Tables, HEATS};
 use mlx9064x::error::LibraryError;
 use mlx9064x::mlx90641::hamming::{add_checksum, validate_checksum};
-use mlx9064x::mlx90641::Mlx90641Calibration;
 use numbers::Numbers;
 use std::collections::BTreeMap;
-use tally::of_crate;
 
 const SEED: u64 = 90641;
 const WORDS_OF_EACH: usize = 120;
@@ -49,6 +48,8 @@ const ANSWERED: u8 = 0;
 const ERROR: u8 = 1;
 const PANIC: u8 = 2;
 const NOT_ASKED: u8 = 3;
+// Verdict and offsets are the papers', for the crate's average is another; the rest is the crate's from the card with plain offsets.
+const PAPERS: u8 = 4;
 
 fn bits(x: f32) -> u32 {
     if x.is_nan() {
@@ -177,10 +178,11 @@ const FULL: [usize; 5] = [192; 5];
 fn card(s: &mut Stream, code: &Code, class: &str, image: &[u8], lengths: [usize; 5]) {
     let image = &image[..image.len().min(IMAGE)];
     let verdict = code.load(image, lengths.into_iter().min().unwrap_or(0));
-    let answer = if verdict.0 == 2 { None } else { of_crate(|| Mlx90641Calibration::from_data(image)) };
-    let (fits, says) = cards::fits(code, image, verdict, &answer);
-    assert!(fits, "{class}: document {verdict:?}, {says}");
-    let did = match &answer {
+    let asked = cards::ask(code, image, verdict);
+    let says = asked.did;
+    assert!(asked.as_expected, "{class}: document {verdict:?}, {says}");
+    let did = match &asked.answer {
+        _ if asked.oracle == Oracle::Papers => PAPERS,
         Some(Ok(_)) => ANSWERED,
         Some(Err(_)) => ERROR,
         None if verdict.0 == 2 => NOT_ASKED,
@@ -194,9 +196,11 @@ fn card(s: &mut Stream, code: &Code, class: &str, image: &[u8], lengths: [usize;
     s.padded(image, IMAGE);
     s.record.clear();
     s.tables.clear();
-    if let (0, Some(Ok(c))) = (verdict.0, &answer) {
+    if let (0, Some(Ok(c)), Some(offsets)) = (verdict.0, &asked.answer, &asked.offsets) {
+        let mut tables = tables_of(c);
+        tables.offsets = offsets.clone().map(|table| table.into_iter().map(|x| x.try_into().expect("an offset")).collect());
         s.record = record_bytes(&record_of(c));
-        s.tables = table_bytes(&tables_of(c));
+        s.tables = table_bytes(&tables);
         s.bytes.extend(&s.record);
         s.bytes.extend(&s.tables);
     }
@@ -255,7 +259,8 @@ fn offsets(s: &mut Stream, code: &Code) {
         (14, 0, 1, 64), (14, 0, -2, 255), (14, 0, 2, 640), (14, 0, -3, 831), (14, -1, 2, 64), (14, -1, -2, 831), (14, 1023, 1, 640),
         (13, 0, 3, 64), (13, 0, 4, 64), (13, 0, -4, 255), (13, -1, -4, 640), (13, 1023, -4, 831), (5, 31, 1023, 64), (5, 32, 1023, 64),
         (5, 0, -1024, 831), (5, -1, -1024, 831), (6, 0, 511, 640), (6, 63, 511, 640), (6, 64, 511, 640), (6, 0, 512, 255), (0, 1023, 1023, 64),
-        (0, -1024, -1024, 831), (15, 0, 0, 64), (16, 0, 0, 64), (63, 0, 0, 64), (15, 0, 1, 64),
+        (0, -1024, -1024, 831), (15, 0, 0, 64), (16, 0, 0, 64), (63, 0, 0, 64), (15, 0, 1, 64), (0, 1024, 0, 64), (0, -1025, 0, 64),
+        (5, 2047, 1023, 64), (5, 2047, -1024, 831), (0, 32767, 1, 640), (0, 32767, -1, 640), (0, -32768, -1, 255), (0, -32768, 1, 255),
     ];
     for (scale, average, raw, place) in edges {
         card(s, code, "offset scales and sums", &image_of(&offset_card(scale, average, raw, place)), FULL);

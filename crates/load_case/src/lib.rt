@@ -71,7 +71,7 @@ pub fn put_data(image: &mut Image, word: usize, data: u16) {
     put(image, word, bits);
 }
 
-// Offset scale and average, the average as 11 bits.
+// Offset scale and average, the average as 16 bits.
 pub fn put_scale(image: &mut Image, scale: u16, average: u16) {
     put_data(image, 16, scale % 64 * 32);
     put_data(image, 17, average / 32);

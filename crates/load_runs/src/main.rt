@@ -98,7 +98,7 @@ fn word_of(entry: usize) -> usize {
     std::num::wrapping_add_usize(from, entry)
 }
 
-// Average and raw offset as 11 bits.
+// The average as 16 bits, the raw offset as 11.
 fn offset(label: &[u8], scale: u16, average: u16, entry: usize, raw: u16) {
     let mut image = [0u8; 1665];
     load_case::put_scale(&mut image, scale, average);
@@ -123,22 +123,29 @@ fn mended() {
 }
 
 // The label says scale, average and raw offset: the offset is average + raw × 2^scale. At scale 14 the part is 16384, -32768 or 32768, and
-// the last is outside; at scale 5 raw 1023 gives 32736, which 31 may be added to and 32 may not.
+// the last is outside; at scale 5 raw 1023 gives 32736, which 31 may be added to and 32 may not. From 1024 on an average has more than 11
+// bits.
 fn offsets() {
     offset(b"14, 0, 1", 14, 0, 0, 1);
     offset(b"14, 0, -2", 14, 0, 0, 2046);
     offset(b"14, 0, 2", 14, 0, 0, 2);
-    offset(b"14, -1, 2", 14, 2047, 0, 2);
-    offset(b"14, -1, 2 at 37", 14, 2047, 37, 2);
-    offset(b"14, -1, 2 at 192", 14, 2047, 192, 2);
-    offset(b"14, -1, 2 at 383", 14, 2047, 383, 2);
+    offset(b"14, -1, 2", 14, 65535, 0, 2);
+    offset(b"14, -1, 2 at 37", 14, 65535, 37, 2);
+    offset(b"14, -1, 2 at 192", 14, 65535, 192, 2);
+    offset(b"14, -1, 2 at 383", 14, 65535, 383, 2);
     offset(b"14, 0, 1 at 229", 14, 0, 229, 1);
-    offset(b"14, -1, -2", 14, 2047, 5, 2046);
+    offset(b"14, -1, -2", 14, 65535, 5, 2046);
     offset(b"5, 31, 1023", 5, 31, 0, 1023);
     offset(b"5, 32, 1023", 5, 32, 0, 1023);
     offset(b"5, 0, -1024", 5, 0, 383, 1024);
-    offset(b"5, -1, -1024", 5, 2047, 383, 1024);
-    offset(b"0, -1024, -1024", 0, 1024, 191, 1024);
+    offset(b"5, -1, -1024", 5, 65535, 383, 1024);
+    offset(b"0, -1024, -1024", 0, 64512, 191, 1024);
+    offset(b"0, 1024, 0", 0, 1024, 0, 0);
+    offset(b"5, 2047, 1023", 5, 2047, 0, 1023);
+    offset(b"5, 2047, -1024", 5, 2047, 383, 1024);
+    offset(b"0, 32767, 0", 0, 32767, 0, 0);
+    offset(b"0, 32767, 1 at 229", 0, 32767, 229, 1);
+    offset(b"0, -32768, -1 at 191", 0, 32768, 191, 2047);
     outside_twice();
     mended();
 }

@@ -36,7 +36,7 @@ product-mag raw scale h = times (signed 11 raw) (2 ^ scale) (stands 11 (lit≤ t
 
 pub average-mag : (w : ℕ → ℕ) → mag (averageOf w) < 32768
 unfolding averageOf offsetAverage
-average-mag w = let h = stands 11 (lit≤ tt) .range (combined (w (wordOf OffsetAverage 0)) (w (wordOf OffsetAverage 1))) in omega arith
+average-mag w = stands 16 (lit≤ tt) .range (combined (w (wordOf OffsetAverage 0)) (w (wordOf OffsetAverage 1)))
 
 -- ---- what the basis as read stands for
 

@@ -14,9 +14,9 @@ use Rattle.map.specs.Map.{framePixels, wordOf}
 unfoldable pub offsetScale : (ℕ → ℕ) → ℕ
 offsetScale w = w (wordOf OffsetScale 0) / 2 ^ 5
 
--- combined, low 11 bits, signed
+-- the combined word, 16 bits signed (document 02, CR 4)
 unfoldable pub offsetAverage : ℕ → ℕ → ℤ
-offsetAverage upper lower = signed 11 (combined upper lower)
+offsetAverage upper lower = signed 16 (combined upper lower)
 
 unfoldable pub averageOf : (ℕ → ℕ) → ℤ
 averageOf w = offsetAverage (w (wordOf OffsetAverage 0)) (w (wordOf OffsetAverage 1))

@@ -30,7 +30,7 @@ pub struct Basis {
 fn offset_average(upper: u16, lower: u16) -> i16
     ensures { λ r. ⌜ r ≡ offsetAverage upper lower ⌝ }
 {
-    util::i16_from_bits(util::combine(upper, lower), 11)
+    util::i16_from_bits(util::combine(upper, lower), 16)
 }
 
 fn read_basis(words: &Words) -> Basis

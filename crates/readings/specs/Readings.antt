@@ -1,4 +1,4 @@
--- Document 01, "Readings to try": those marked P, as one list. Assumes nothing.
+-- Document 01, "Readings to try": those marked P, as one list; the average as document 02, CR 4, has it. Assumes nothing.
 use Prim.Native.Nat.{ℕ}
 use mathlib.Core.Path.{_≡_}
 use mathlib.Core.List.{List, [], _∷_}
@@ -41,6 +41,6 @@ readings =
     ∷ combines 1 0x020 32
     ∷ isSigned 11 0x400 (minus 1024)
     ∷ isSigned 11 0x3FF (pos 1023)
-    ∷ averages 0x020 0 (minus 1024)
+    ∷ averages 0x020 0 (pos 1024)
     ∷ roots 81 3
     ∷ []

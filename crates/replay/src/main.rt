@@ -5,7 +5,7 @@
 // The stream is cases one after another, every number with its upper byte first. An f32 is its bits, each not-a-number of an answer
 // 0x7FC00000. A case starts with a head of 16 bytes: 0 kind, 1 what the crate did, 2 what is given, 4 answer, 6 value, 8 number (four
 // bytes), 12 place (four bytes). What follows it depends on the kind. What the crate did is told and not compared: 0 answered, 1 error,
-// 2 panic, 3 not asked.
+// 2 panic, 3 not asked, 4 not its card: verdict and offsets are the papers', the rest is the crate's.
 //   1  encode: data given, chip word answered.
 //   2  check: chip word given, data answered.
 //   3  a card that loads: image length given. 1,696 bytes: 0 lengths of the five tables, 16 the image. The tables have 77 everywhere

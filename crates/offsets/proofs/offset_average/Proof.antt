@@ -12,7 +12,7 @@ returns : tie.Need-returns
 unfolding offsetAverage
 returns c =
     toZ-ofZ w16 (c .i16-from-bits .result) (record { sfits = c .i16-from-bits .ok }) ∙ c .i16-from-bits .ensures
-    ∙ ap (signed 11) (c .before .combine .ensures)
+    ∙ ap (signed 16) (c .before .combine .ensures)
 
 pub offset-average-spec : {M : Type 1} → statement M
 offset-average-spec = tie.close (tie.spec (λ c κs. search needs) (λ c κs. search needs) returns)
