@@ -34,6 +34,10 @@ def check(word):
     return near[0] if near else None
 
 
+def is_codeword(word):
+    return word in CODEWORDS
+
+
 def is_checked(word):
     return not (word <= 15 or word in (19, 20))
 
@@ -94,6 +98,14 @@ def words_of(image):
 
 def data_of(image):
     return [check(word) if is_checked(k) else 0 for k, word in enumerate(words_of(image))]
+
+
+def mending(image):
+    """How many checked words are no codewords, and the last of them, or 832; 0 and 832 of a card that is refused. Document 02, CR 8."""
+    if verdict(image)[0]:
+        return 0, WORDS
+    stray = [k for k, word in enumerate(words_of(image)) if is_checked(k) and not is_codeword(word)]
+    return len(stray), (stray or [WORDS])[-1]
 
 
 def offset_entry(w, entry):

@@ -468,6 +468,11 @@ fn judge(tally: &mut Tally, code: &Code, class: &str, image: &[u8], before: &Tab
         tally.disagree(|| format!("{label}, {class}: document {verdict:?}, library {:?}", (loaded.number, loaded.place, loaded.value)));
         return;
     }
+    let mending = if number == 0 { code.mending(image) } else { (0, 832) };
+    if (loaded.mended, loaded.last_mended) != mending {
+        tally.disagree(|| format!("{label}, {class}: mended {mending:?} by document 02, library {:?}", (loaded.mended, loaded.last_mended)));
+    }
+    tally.count(if mending.0 == 0 { "cards, no word mended" } else { "cards, words mended" });
     if !unchanged(before, &after, if number == 0 { 192 } else { 0 }) {
         tally.disagree(|| format!("{label}, {class}: verdict {verdict:?}, an entry changed that must stay"));
     }

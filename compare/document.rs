@@ -19,6 +19,10 @@ pub fn encode(data: u16) -> u16 {
     word | (word.count_ones() as u16 % 2) << 15
 }
 
+fn checked(word: usize) -> bool {
+    !(word < 16 || word == 19 || word == 20)
+}
+
 impl Code {
     /// Each codeword and each word one flip away from it say its data; the others are damaged.
     pub fn new() -> Self {
@@ -37,12 +41,28 @@ impl Code {
         self.data[usize::from(word)]
     }
 
+    /// The bit whose flip makes a codeword of a word that is none, if there is one.
+    pub fn flipped(&self, word: u16) -> Option<u8> {
+        let codeword = |word: u16| encode(word % 2048) == word;
+        if codeword(word) {
+            return None;
+        }
+        (0..16).find(|bit| codeword(word ^ 1 << bit))
+    }
+
+    /// How many checked words of a card that loads are no codewords, and the last of them, or 832.
+    pub fn mending(&self, image: &[u8]) -> (usize, usize) {
+        let word = |k: usize| u16::from(image[2 * k]) * 256 + u16::from(image[2 * k + 1]);
+        let stray: Vec<usize> = (0..832).filter(|k| checked(*k) && self.flipped(word(*k)).is_some()).collect();
+        (stray.len(), stray.last().copied().unwrap_or(832))
+    }
+
     /// The data of an image of 1,664 bytes, or the refusal of its first damaged word.
     pub fn data(&self, image: &[u8]) -> Result<Data, Verdict> {
         let mut data = [0u16; 832];
         for (k, slot) in data.iter_mut().enumerate() {
             let word = u16::from(image[2 * k]) * 256 + u16::from(image[2 * k + 1]);
-            if k < 16 || k == 19 || k == 20 {
+            if !checked(k) {
                 continue;
             }
             match self.check(word) {

@@ -71,7 +71,10 @@ pub fn encode(data: u16) -> Word {
 pub fn check(word: u16) -> Word {
     let mut answer = border::check(word);
     if planted("check-0003-passes") && word == 3 {
-        answer = Word { number: 0, place: 0, value: 0, word: 3 };
+        answer = Word { number: 0, place: 0, value: 0, word: 3, mended: 0, bit: 0 };
+    }
+    if planted("bit-as-a-mask") && answer.mended == 1 {
+        answer.bit = (1u32 << answer.bit) as u8;
     }
     answer
 }
@@ -92,6 +95,12 @@ pub fn load(image: &[u8], tables: &mut Tables) -> Load {
     }
     if planted("refusal-writes") && answer.number == 3 {
         tables.k_v[0] = 1.5;
+    }
+    if planted("mended-last") && answer.mended > 1 {
+        answer.last_mended -= 1;
+    }
+    if planted("mended-none") && answer.mended == 1 {
+        answer.mended = 0;
     }
     if planted("damaged-place") && answer.number == 3 {
         answer.place += 1;

@@ -6,11 +6,16 @@ use mlx9064x::error::LibraryError;
 use mlx9064x::mlx90641::hamming::{add_checksum, validate_checksum};
 
 fn good(word: u16) -> Word {
-    Word { number: 0, place: 0, value: 0, word }
+    Word { number: 0, place: 0, value: 0, word, mended: 0, bit: 0 }
 }
 
 fn refused(number: u64, place: u16, value: u16) -> Word {
-    Word { number, place: place.into(), value: value.into(), word: 0 }
+    Word { number, place: place.into(), value: value.into(), word: 0, mended: 0, bit: 0 }
+}
+
+// As the crate has it, which doesn't tell a mended word from a clean one.
+fn plain(word: Word) -> Word {
+    Word { mended: 0, bit: 0, ..word }
 }
 
 pub fn compare(tally: &mut Tally) {
@@ -21,10 +26,17 @@ pub fn compare(tally: &mut Tally) {
             Err(LibraryError::Checksum(bits)) => refused(3, 0, bits),
             Err(other) => panic!("{other:?}"),
         };
-        let by_document = code.check(word).map_or(refused(3, 0, word), good);
+        let mut by_document = code.check(word).map_or(refused(3, 0, word), good);
+        if let Some(bit) = code.flipped(word) {
+            (by_document.mended, by_document.bit) = (1, bit);
+        }
         let by_library = library::check(word);
-        tally.count(if by_library.number == 0 { "words checked, good" } else { "words checked, refusal 3" });
-        if by_library != by_crate || by_library != by_document {
+        tally.count(match (by_library.number, by_library.mended) {
+            (0, 0) => "words checked, clean",
+            (0, _) => "words checked, mended",
+            _ => "words checked, refusal 3",
+        });
+        if plain(by_library) != by_crate || by_library != by_document {
             tally.disagree(|| format!("check 0x{word:04X}: crate {by_crate:?}, document {by_document:?}, library {by_library:?}"));
         }
     }

@@ -8,7 +8,7 @@
 
 /* What the archive hands over, on a processor of 64 bits. */
 _Static_assert(sizeof(loamchalice_word) == 32 && sizeof(loamchalice_part) == 16 && sizeof(loamchalice_record) == 100, "layout");
-_Static_assert(sizeof(loamchalice_loaded) == 128 && sizeof(loamchalice_ram) == 10 && sizeof(loamchalice_answer) == 40, "layout");
+_Static_assert(sizeof(loamchalice_loaded) == 144 && sizeof(loamchalice_ram) == 10 && sizeof(loamchalice_answer) == 40, "layout");
 
 static float number(uint32_t bits) {
     float x;
@@ -34,6 +34,10 @@ int main(int argc, char **argv) {
     if (loaded.number != 0) {
         fprintf(stderr, "card refused: %d at %lu, value %lu\n", (int)loaded.number, (unsigned long)loaded.place, (unsigned long)loaded.value);
         return 1;
+    }
+
+    if (loaded.mended != 0) {
+        fprintf(stderr, "the card goes bad: %zu words mended, the last is %zu\n", loaded.mended, loaded.last_mended);
     }
 
     /* What a camera in a room would send: these stand for reads over its bus. */

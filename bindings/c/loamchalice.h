@@ -26,12 +26,14 @@ extern "C" {
 #endif
 
 #define LOAMCHALICE_IMAGE_BYTES 1664
+#define LOAMCHALICE_WORDS 832
 #define LOAMCHALICE_PIXELS 192
 #define LOAMCHALICE_NOT_A_NUMBER 0x7FC00000u
 
 typedef struct {
     uint64_t number, place, value;
-    uint16_t word; /* the chip word, or its data; 0 after a refusal */
+    uint16_t word;       /* the chip word, or its data; 0 after a refusal */
+    uint8_t mended, bit; /* 1 and the bit, 0 to 15, where a checked word had that bit flipped; else 0 and 0 */
 } loamchalice_word;
 
 typedef struct {
@@ -47,8 +49,11 @@ typedef struct {
     uint8_t resolution, has_gradient;
 } loamchalice_record;
 
+/* A card that goes bad tells so: `mended` checked words had a flipped bit, of which `last_mended` is the last. */
 typedef struct {
     uint64_t number, place, value;
+    size_t mended;      /* of 814; 0 after a refusal */
+    size_t last_mended; /* its word number; LOAMCHALICE_WORDS if there is none, and after a refusal */
     loamchalice_record calibration;
 } loamchalice_loaded;
 
@@ -66,7 +71,7 @@ typedef struct {
 /* The chip word of 11 bits of data. Refusal 9. */
 loamchalice_word loamchalice_encode(uint16_t data);
 
-/* The data of a chip word, mended where one bit is flipped. Refusal 3, at place 0. */
+/* The data of a chip word, clean or mended where one bit is flipped. Refusal 3, at place 0. */
 loamchalice_word loamchalice_check(uint16_t word);
 
 /* The fourth root of x, as its bits: two square roots, each the nearest float. */

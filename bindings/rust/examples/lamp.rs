@@ -40,6 +40,9 @@ fn main() {
         Ok(camera) => camera,
         Err(refusal) => return println!("lamp down: {path}: {refusal}"),
     };
+    if camera.mended().count > 0 {
+        println!("the card goes bad: {}", camera.mended());
+    }
     let mut picture = [0f32; 192];
     for frame in 0.. {
         match judge(&camera, frame, &mut picture) {

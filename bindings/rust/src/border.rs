@@ -7,6 +7,8 @@ pub struct Word {
     pub place: u64,
     pub value: u64,
     pub word: u16,
+    pub mended: u8,
+    pub bit: u8,
 }
 
 #[repr(C)]
@@ -45,6 +47,8 @@ pub struct Load {
     pub number: u64,
     pub place: u64,
     pub value: u64,
+    pub mended: usize,
+    pub last_mended: usize,
     pub calibration: Record,
 }
 
@@ -72,7 +76,7 @@ pub struct Answer {
 const _: () = {
     use std::mem::size_of;
     assert!(size_of::<Word>() == 32 && size_of::<Part>() == 16 && size_of::<Record>() == 100);
-    assert!(size_of::<Load>() == 128 && size_of::<Ram>() == 10 && size_of::<Answer>() == 40);
+    assert!(size_of::<Load>() == 144 && size_of::<Ram>() == 10 && size_of::<Answer>() == 40);
 };
 
 #[rustfmt::skip]

@@ -91,16 +91,71 @@ pub fn add_checksum(data: u16) -> Result<u16, Refusal> {
     Refusal::of(answer.number, answer.place, answer.value).map_or(Ok(answer.word), Err)
 }
 
-/// The data of a chip word, mended where one bit is flipped. Refusal 3.
+/// What checking a chip word finds: a codeword, or one with a single bit flipped.
+#[derive(Clone, Copy, Debug, PartialEq, Eq)]
+pub enum Checked {
+    Clean(u16),
+    /// The bit, 0 to 15, was flipped; the data are those of the codeword.
+    Mended { data: u16, bit: u8 },
+}
+
+impl Checked {
+    /// The data, whether clean or mended.
+    pub fn data(self) -> u16 {
+        match self {
+            Checked::Clean(data) | Checked::Mended { data, .. } => data,
+        }
+    }
+}
+
+/// Checks a chip word. Refusal 3.
 ///
 /// ```
-/// use loamchalice::{validate_checksum, Refusal};
-/// assert_eq!(validate_checksum(0x9800), Ok(1));
-/// assert_eq!(validate_checksum(3), Err(Refusal::DamagedWord { word: 0, bits: 3 }));
+/// use loamchalice::{check_word, Checked, Refusal};
+/// assert_eq!(check_word(0x9801), Ok(Checked::Clean(1)));
+/// assert_eq!(check_word(0x9800), Ok(Checked::Mended { data: 1, bit: 0 }));
+/// assert_eq!(check_word(3), Err(Refusal::DamagedWord { word: 0, bits: 3 }));
+/// ```
+pub fn check_word(word: u16) -> Result<Checked, Refusal> {
+    let answer = border::check(word);
+    let checked = if answer.mended == 0 { Checked::Clean(answer.word) } else { Checked::Mended { data: answer.word, bit: answer.bit } };
+    Refusal::of(answer.number, answer.place, answer.value).map_or(Ok(checked), Err)
+}
+
+/// The data of a chip word, clean or mended. Refusal 3.
+///
+/// ```
+/// assert_eq!(loamchalice::validate_checksum(0x9800), Ok(1));
 /// ```
 pub fn validate_checksum(word: u16) -> Result<u16, Refusal> {
-    let answer = border::check(word);
-    Refusal::of(answer.number, answer.place, answer.value).map_or(Ok(answer.word), Err)
+    check_word(word).map(Checked::data)
+}
+
+/// Words of a card that were mended when it was loaded: the warning before the damage.
+///
+/// ```
+/// use loamchalice::Calibration;
+/// let mended = Calibration::from_data(include_bytes!("../../../cards/mended.bin"))?.mended();
+/// assert_eq!((mended.count, mended.last), (8, Some(831)));
+/// assert_eq!(mended.to_string(), "8 words mended, the last is 831");
+/// # Ok::<(), loamchalice::Refusal>(())
+/// ```
+#[derive(Clone, Copy, Debug, PartialEq, Eq)]
+pub struct Mended {
+    /// How many of the 814 checked words had a flipped bit.
+    pub count: usize,
+    /// The number of the last of them.
+    pub last: Option<usize>,
+}
+
+impl std::fmt::Display for Mended {
+    fn fmt(&self, f: &mut std::fmt::Formatter<'_>) -> std::fmt::Result {
+        match (self.count, self.last) {
+            (_, None) => write!(f, "no word mended"),
+            (1, Some(last)) => write!(f, "1 word mended, {last}"),
+            (count, Some(last)) => write!(f, "{count} words mended, the last is {last}"),
+        }
+    }
 }
 
 /// The 64 bytes of a row of alpha, 0 to 5, as a part of the image; none for a higher row or an image below 1,664 bytes.
@@ -144,6 +199,7 @@ pub fn fourth_root(x: f32) -> f32 {
 #[derive(Clone, Debug)]
 pub struct Calibration {
     record: border::Record,
+    mended: Mended,
     offsets: [[i16; 192]; 2],
     alpha: [f32; 192],
     k_v: [f32; 192],
@@ -164,8 +220,16 @@ impl Calibration {
         let loaded = border::load(image, [zero, one], &mut alpha, &mut k_v, &mut k_ta);
         match Refusal::of(loaded.number, loaded.place, loaded.value) {
             Some(refusal) => Err(refusal),
-            None => Ok(Calibration { record: loaded.calibration, offsets, alpha, k_v, k_ta }),
+            None => {
+                let mended = Mended { count: loaded.mended, last: (loaded.mended != 0).then_some(loaded.last_mended) };
+                Ok(Calibration { record: loaded.calibration, mended, offsets, alpha, k_v, k_ta })
+            }
         }
+    }
+
+    /// How many words were mended in loading. A card that counts up is going bad.
+    pub fn mended(&self) -> Mended {
+        self.mended
     }
 
     /// The resolution that the card was written at, 0 to 3.

@@ -38,14 +38,19 @@ use Rattle.capi.specs.declared.Load.{Load}
 use Rattle.capi.specs.declared.Flagged.{Flagged}
 
 abbrev pub refusedWord : Refusal → Word
-refusedWord r = record { number = toldOf r .number; place = toldOf r .place; value = toldOf r .value; word = 0 }
+refusedWord r = record { number = toldOf r .number; place = toldOf r .place; value = toldOf r .value; word = 0; mended = 0; bit = 0 }
+
+-- with no refusal
+abbrev pub goodWord : ℕ → ℕ → ℕ → Word
+goodWord word mended bit = record { number = 0; place = 0; value = 0; word = word; mended = mended; bit = bit }
 
 abbrev pub encodedOut : Encoded → Word
-encodedOut (Encoded.Word w) = record { number = 0; place = 0; value = 0; word = w }
+encodedOut (Encoded.Word w) = goodWord w 0 0
 encodedOut (Encoded.Refused r) = refusedWord r
 
 abbrev pub checkedOut : Checked → Word
-checkedOut (Checked.Data d) = record { number = 0; place = 0; value = 0; word = d }
+checkedOut (Checked.Clean d) = goodWord d 0 0
+checkedOut (Checked.Mended d bit) = goodWord d 1 bit
 checkedOut (Checked.Refused r) = refusedWord r
 
 -- no gradient is the flag 0, and the coefficient +0
@@ -80,6 +85,8 @@ loadedOut l = record {
   number = verdictTold (l .verdict) .number;
   place = verdictTold (l .verdict) .place;
   value = verdictTold (l .verdict) .value;
+  mended = l .mending .count;
+  «last_mended» = l .mending .last;
   calibration = recordOut (l .calibration);
 }
 

@@ -5,7 +5,7 @@ ghost use lib.ListN.{take, drop};
 ghost use Rattle.root.specs.Root.{root};
 ghost use Rattle.hamming.specs.Answer.{encodeAnswer, checkAnswer};
 ghost use Rattle.eeprom.specs.Parts.{rowOf, offsetsOf};
-ghost use Rattle.capi.specs.Border.{refusedWord, encodedOut, checkedOut, subpageOf, gradientOut, recordOut, rowPlace, offsetsPlace, Loading, gradientIn, recordIn, ramIn, supplyIn, reflectedIn, frameOut, Carried};
+ghost use Rattle.capi.specs.Border.{goodWord, refusedWord, encodedOut, checkedOut, subpageOf, gradientOut, recordOut, rowPlace, offsetsPlace, Loading, gradientIn, recordIn, ramIn, supplyIn, reflectedIn, frameOut, Carried};
 ghost use Rattle.eeprom.specs.Load.{tables};
 ghost use Rattle.calculations.specs.Frames.{irCall, toCall, passCall, ownReading, Infrareds, Temperatures, Passes};
 use calculations::Frame;
@@ -20,13 +20,16 @@ use hamming::Encoded;
 use offsets::Offset;
 use refusal::Refusal;
 
-// A chip word's answer: number, place and value of the refusal, all 0 for none; and the word or its data, 0 after a refusal.
+// A chip word's answer: number, place and value of the refusal, all 0 for none; and the word or its data, 0 after a refusal. Where a checked
+// word was mended `mended` is 1 and `bit` the bit that was flipped, 0 to 15; else both are 0.
 #[repr(C)]
 pub struct Word {
     pub number: u64,
     pub place: u64,
     pub value: u64,
     pub word: u16,
+    pub mended: u8,
+    pub bit: u8,
 }
 
 // A part of what was lent: where it starts and how many entries it has.
@@ -59,12 +62,15 @@ pub struct Record {
     pub has_gradient: u8,
 }
 
-// What loading answers: number, place and value of the refusal, all 0 for none; and the record, all zero after a refusal.
+// What loading answers: number, place and value of the refusal, all 0 for none; and the record, all zero after a refusal: how many of the
+// checked words were mended, the last of them (832 if none was, and after a refusal), and the calibration.
 #[repr(C)]
 pub struct Load {
     pub number: u64,
     pub place: u64,
     pub value: u64,
+    pub mended: usize,
+    pub last_mended: usize,
     pub calibration: Record,
 }
 
@@ -113,6 +119,22 @@ fn refused_word(refusal: Refusal) -> Word
         place: told.place,
         value: told.value,
         word: 0,
+        mended: 0,
+        bit: 0,
+    }
+}
+
+// A word or data that were answered with no refusal.
+fn good_word(word: u16, mended: u8, bit: u8) -> Word
+    ensures { λ r. ⌜ r ≡ goodWord word mended bit ⌝ }
+{
+    Word {
+        number: 0,
+        place: 0,
+        value: 0,
+        word,
+        mended,
+        bit,
     }
 }
 
@@ -123,29 +145,20 @@ pub extern "C" fn loamchalice_encode(data: u16) -> Word
 {
     let answer = hamming::encode(data);
     match answer {
-        Encoded::Word(word) => Word {
-            number: 0,
-            place: 0,
-            value: 0,
-            word,
-        },
+        Encoded::Word(word) => good_word(word, 0, 0),
         Encoded::Refused(refusal) => refused_word(refusal),
     }
 }
 
-// The data of a chip word, mended where one bit is flipped. Refusal 3.
+// The data of a chip word, clean or mended where one bit is flipped. Refusal 3.
 #[no_mangle]
 pub extern "C" fn loamchalice_check(word: u16) -> Word
     ensures { λ r. ⌜ r ≡ checkedOut (checkAnswer word) ⌝ }
 {
     let answer = hamming::check(word);
     match answer {
-        Checked::Data(data) => Word {
-            number: 0,
-            place: 0,
-            value: 0,
-            word: data,
-        },
+        Checked::Clean(data) => good_word(data, 0, 0),
+        Checked::Mended { data, bit } => good_word(data, 1, bit),
         Checked::Refused(refusal) => refused_word(refusal),
     }
 }
@@ -211,12 +224,15 @@ pub extern "C" fn loamchalice_load(
     let loaded = eeprom::load(image, offsets0, offsets1, alpha, k_v, k_ta);
     let verdict = loaded.verdict;
     let inner = loaded.calibration;
+    let mending = loaded.mending;
     let told = verdict.told();
     let calibration = record_out(inner);
     Load {
         number: told.number,
         place: told.place,
         value: told.value,
+        mended: mending.count,
+        last_mended: mending.last,
         calibration,
     }
 }

@@ -1,3 +1,4 @@
--- The laws that callers cite.
+-- The laws that callers cite are in Data and Times.
+mod Reading
 pub mod Data
 pub mod Times

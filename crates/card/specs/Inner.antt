@@ -1,15 +1,28 @@
--- For inner functions only. What the cursor reads at a word of decoded data: the field, and the cursor past it. Assumes nothing.
+-- For inner functions only. What a word of an image says, and what the cursor reads at a word of decoded data: the field, and the cursor past it.
+-- Assumes nothing.
 use Prim.Native.Nat.{ℕ, _+_}
+use mathlib.Core.Bool.{Bool}
 use mathlib.Core.List.{List}
 use lib.IntN.{pos, _*ℤ_}
 use lib.ListN.{getD}
+use Rattle.lists.specs.Pick.{pick}
 use Rattle.floats.specs.Floats.{real, over}
 use Rattle.util.specs.Fields.{signed, combined, pairOf}
+use Rattle.card.specs.Card.{dataAt, damagedAt, strayAt}
+use Rattle.card.specs.declared.Read.{Read}
+use Rattle.card.specs.declared.Mending.{Mending}
 use Rattle.card.specs.declared.Plain.{Plain}
 use Rattle.card.specs.declared.Signed.{Signed}
 use Rattle.card.specs.declared.Combined.{Combined}
 use Rattle.card.specs.declared.Split.{Split}
 use Rattle.card.specs.declared.Scaled.{Scaled}
+
+abbrev pub readOf : List ℕ → ℕ → Read
+readOf image word = record { value = dataAt image word; damaged = damagedAt image word; stray = strayAt image word }
+
+-- one more word is counted if it is no codeword
+abbrev pub counted : Mending → ℕ → Bool → Mending
+counted m word stray = pick stray (record { count = m .count + 1; last = word }) m
 
 -- the data of a word by its number
 abbrev pub at : List ℕ → ℕ → ℕ

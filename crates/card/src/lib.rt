@@ -1,52 +1,119 @@
-// The words of a card: their data, the first that is damaged, and a cursor that reads fields off the data.
+// The words of a card: their data, the first that is damaged, those that are mended, and a cursor that reads fields off the data.
 ghost use mathlib.Core.Path.{_≡_};
 ghost use Prim.Native.Nat.{_+_, _*_, _<_, _≤_};
 ghost use lib.ListN.{length};
 ghost use Rattle.lists.specs.Written.{filled};
-ghost use Rattle.hamming.specs.Answer.{answerOf};
 ghost use lib.IntN.{pos};
 ghost use Rattle.floats.specs.Floats.{real, over};
-ghost use Rattle.util.specs.Words.{wordAt};
 ghost use Rattle.util.specs.Fields.{combined};
 ghost use Rattle.map.specs.Map.{cardWords, imageBytes};
-ghost use Rattle.card.specs.Card.{readAt, dataAt, firstDamaged};
-ghost use Rattle.card.specs.Inner.{plainAt, signedAt, combinedAt, splitAt, scaledAt, times32At, fractionAt, realAt};
+ghost use Rattle.card.specs.Card.{dataAt, firstDamaged, noMending, mendingBelow};
+ghost use Rattle.card.specs.Inner.{readOf, counted, plainAt, signedAt, combinedAt, splitAt, scaledAt, times32At, fractionAt, realAt};
 use hamming::Checked;
 use map::WORDS;
 use map::Words;
 use util::Pair;
 
+// How many checked words are no codewords, and the number of the last of them; 832 if there is none.
+pub struct Mending {
+    pub count: usize,
+    pub last: usize,
+}
+
+// The first damaged word in reading order, or 832; and how many words before it were mended.
+pub struct Decoded {
+    pub damaged: usize,
+    pub mending: Mending,
+}
+
+// What a word of an image says: its data, whether it is damaged, and whether it is no codeword.
+pub struct Read {
+    pub value: u16,
+    pub damaged: bool,
+    pub stray: bool,
+}
+
 // What word number `word` of an image says. An unchecked word says 0.
-fn read_word(image: &[u8], word: usize) -> Checked
+fn read_word(image: &[u8], word: usize) -> Read
     requires { ⌜ word * 2 + 1 < length (now image) ⌝ }
-    ensures { λ r. ⌜ r ≡ answerOf (wordAt (now (image .entry)) word) (readAt (now (image .entry)) word) ⌝ }
+    ensures { λ r. ⌜ r ≡ readOf (now (image .entry)) word ⌝ }
 {
     if map::is_checked(word) {
-        hamming::check(util::word_at(image, word))
+        match hamming::check(util::word_at(image, word)) {
+            Checked::Clean(data) => Read {
+                value: data,
+                damaged: false,
+                stray: false,
+            },
+            Checked::Mended { data, bit } => Read {
+                value: data,
+                damaged: false,
+                stray: true,
+            },
+            Checked::Refused(refusal) => Read {
+                value: 0,
+                damaged: true,
+                stray: true,
+            },
+        }
     } else {
-        Checked::Data(0)
+        Read {
+            value: 0,
+            damaged: false,
+            stray: false,
+        }
     }
 }
 
-// The first damaged word in reading order, or 832. The data of all words before it are in `words`.
-pub fn decode(image: &[u8], words: &mut Words) -> usize
-    requires { ⌜ imageBytes ≤ length (now image) ⌝ }
-    ensures { λ r. ⌜ r ≡ firstDamaged (now (image .entry)) ⌝ }
-    ensures { λ r. ⌜ now (words .exit) ≡ filled (dataAt (now (image .entry))) r (now (words .entry)) ⌝ }
+// No word is mended.
+pub fn no_mending() -> Mending
+    ensures { λ r. ⌜ r ≡ noMending ⌝ }
 {
+    Mending {
+        count: 0,
+        last: WORDS,
+    }
+}
+
+impl Mending {
+    // With one more word, which may be no codeword.
+    fn with(self, word: usize, stray: bool) -> Mending
+        requires { ⌜ self .count < cardWords ⌝ }
+        ensures { λ r. ⌜ r ≡ counted self word stray ⌝ }
+    {
+        if stray {
+            Mending {
+                count: self.count + 1,
+                last: word,
+            }
+        } else {
+            self
+        }
+    }
+}
+
+// The first damaged word. The data of all words before it are in `words`.
+pub fn decode(image: &[u8], words: &mut Words) -> Decoded
+    requires { ⌜ imageBytes ≤ length (now image) ⌝ }
+    ensures { λ r. ⌜ r .damaged ≡ firstDamaged (now (image .entry)) ⌝ }
+    ensures { λ r. ⌜ r .mending ≡ mendingBelow (now (image .entry)) (r .damaged) ⌝ }
+    ensures { λ r. ⌜ now (words .exit) ≡ filled (dataAt (now (image .entry))) (r .damaged) (now (words .entry)) ⌝ }
+{
+    let mut mending = no_mending();
     let mut word: usize = 0;
-    let place = loop {
+    let damaged = loop {
         if word == WORDS {
             break WORDS;
         }
         let read = read_word(image, word);
-        let Checked::Data(data) = read else {
+        if read.damaged {
             break word;
-        };
-        words[word] = data;
+        }
+        words[word] = read.value;
+        mending = mending.with(word, read.stray);
         word += 1;
     };
-    place
+    Decoded { damaged, mending }
 }
 
 // An unsigned field over 2^power.

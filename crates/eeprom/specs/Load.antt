@@ -13,7 +13,7 @@ use Rattle.refusal.specs.Refusal.{unless}
 use Rattle.refusal.specs.Order.{Test, _refuses_, firstOf}
 use Rattle.util.specs.Words.{wordAt}
 use Rattle.map.specs.Map.{cardWords, imageBytes, framePixels}
-use Rattle.card.specs.Card.{dataAt, firstDamaged}
+use Rattle.card.specs.Card.{dataAt, firstDamaged, mendingOf, noMending}
 use Rattle.offsets.specs.Offsets.{entries, offsetScale, firstOutside, offsetAt}
 use Rattle.tables.specs.declared.K.the-variants.{KTa, KV}
 use Rattle.tables.specs.Tables.{alphaAt, kAt}
@@ -71,4 +71,5 @@ loadVerdict image t = firstOf (loadTests image (shortest t))
 pub record Loads (image : List ℕ) (before after : Tables) (r : Loaded) : Type 0 where
   pub verdict : r .verdict ≡ loadVerdict image before
   pub calibration : r .calibration ≡ unless (r .verdict) (calibrationOf (dataAt image)) noCalibration
+  pub mending : r .mending ≡ unless (r .verdict) (mendingOf image) noMending
   pub lent : after ≡ unless (r .verdict) (filledTables (dataAt image) before) before

@@ -3,16 +3,17 @@ ghost use mathlib.Core.Path.{_≡_};
 ghost use Prim.Native.Nat.{min};
 ghost use lib.ListN.{length};
 ghost use Rattle.lists.specs.Written.{filled};
-ghost use Rattle.refusal.specs.declared.Verdict.the-variants.{Pass};
+ghost use Rattle.refusal.specs.declared.Verdict.the-variants.{Pass, Refused};
 ghost use Rattle.refusal.specs.Order.{firstOf};
 ghost use Rattle.map.specs.Map.{cardWords};
-ghost use Rattle.card.specs.Card.{dataAt};
+ghost use Rattle.card.specs.Card.{dataAt, mendingOf};
 ghost use Rattle.card.specs.Inner.{at};
 ghost use Rattle.calibration.specs.Calibration.{calibrationOf};
 ghost use Rattle.eeprom.specs.Load.{tables, filledTables, dataTests, loadTests, Loads};
 ghost use Rattle.eeprom.specs.Inner.{Passed};
 ghost use Rattle.eeprom.specs.Parts.{rowOf, first192, offsetsOf};
 use calibration::Calibration;
+use card::Mending;
 use map::IMAGE_BYTES;
 use map::PIXELS;
 use map::WORDS;
@@ -23,10 +24,18 @@ use refusal::Refusal;
 use refusal::Verdict;
 use tables::K;
 
-// What loading answers: the verdict, and the record, which after a refusal is all zero.
+// What loading answers: the verdict, and the record, which after a refusal is all zero. To the record belongs how many checked words were no
+// codewords, and the last of them; after a refusal 0 and 832.
 pub struct Loaded {
     pub verdict: Verdict,
     pub calibration: Calibration,
+    pub mending: Mending,
+}
+
+// What the gate says, and the words that were mended.
+pub struct Gated {
+    pub verdict: Verdict,
+    pub mending: Mending,
 }
 
 pub enum Subpage {
@@ -59,25 +68,39 @@ fn data_gate(words: &Words) -> Verdict
     Verdict::Pass
 }
 
-// All that stops a load, lowest number first. Where nothing does, `words` has the data of the card's words.
-fn gate(image: &[u8], table: usize, words: &mut Words) -> Verdict
+fn stopped(refusal: Refusal) -> Gated
+    ensures { λ r. ⌜ r .verdict ≡ Refused refusal ⌝ }
+{
+    Gated {
+        verdict: Verdict::Refused(refusal),
+        mending: card::no_mending(),
+    }
+}
+
+// All that stops a load, lowest number first. Where nothing does, `words` has the data of the card's words, and those mended are counted.
+fn gate(image: &[u8], table: usize, words: &mut Words) -> Gated
     requires { ⌜ length (now words) ≡ cardWords ⌝ }
-    ensures { λ r. ⌜ r ≡ firstOf (loadTests (now (image .entry)) table) ⌝ }
-    ensures { λ r. ⌜ (r ≡ Pass → now (words .exit) ≡ filled (dataAt (now (image .entry))) cardWords (now (words .entry))) ⌝ }
+    ensures { λ r. ⌜ r .verdict ≡ firstOf (loadTests (now (image .entry)) table) ⌝ }
+    ensures { λ r. ⌜ (r .verdict ≡ Pass → (r .mending ≡ mendingOf (now (image .entry))) × (now (words .exit) ≡ filled (dataAt (now (image .entry))) cardWords (now (words .entry)))) ⌝ }
 {
     let length = image.len();
     if length < IMAGE_BYTES {
-        return Verdict::Refused(Refusal::ShortImage { length });
+        return stopped(Refusal::ShortImage { length });
     }
     if table < PIXELS {
-        return Verdict::Refused(Refusal::ShortTable);
+        return stopped(Refusal::ShortTable);
     }
-    let word = card::decode(image, words);
+    let decoded = card::decode(image, words);
+    let mending = decoded.mending;
+    let word = decoded.damaged;
     if word < WORDS {
         let bits = util::word_at(image, word);
-        return Verdict::Refused(Refusal::DamagedWord { word, bits });
+        return stopped(Refusal::DamagedWord { word, bits });
     }
-    data_gate(words)
+    Gated {
+        verdict: data_gate(words),
+        mending,
+    }
 }
 
 // The five tables and the record, from the data of words that the gate let through.
@@ -122,18 +145,22 @@ pub fn load(
         k_ta.len(),
     );
     let mut words = [0u16; WORDS];
-    let verdict = gate(image, table, &mut words);
+    let gated = gate(image, table, &mut words);
+    let verdict = gated.verdict;
+    let mending = gated.mending;
     let Verdict::Pass = verdict else {
         let calibration = calibration::no_calibration();
         return Loaded {
             verdict,
             calibration,
+            mending: card::no_mending(),
         };
     };
     let calibration = fill_all(&words, offsets0, offsets1, alpha, k_v, k_ta);
     Loaded {
         verdict,
         calibration,
+        mending,
     }
 }
 

@@ -7,24 +7,23 @@ use native.Mathlib.Nat.{mod-lt}
 use native.Mathlib.Omega.{arith}
 use lib.Dec.{lit<, ltb}
 use Rattle.lists.specs.Pick.{pick}
-use Rattle.refusal.specs.declared.Refusal.{Refusal}
-use Rattle.hamming.specs.Word.{Said, says, damaged, dataValues, dataOf, flip, codeword, place, mended, decoded, saidData}
-use Rattle.hamming.specs.Answer.{answerOf, checkAnswer}
-use Rattle.hamming.specs.declared.Checked.the-variants.{Data, Refused}
+use Rattle.hamming.specs.Word.{says, damaged, dataValues, dataOf, flip, codeword, place, mended, decoded, saidData}
+use Rattle.hamming.specs.Answer.{mendedAnswer, checkAnswer, saidOf}
+use Rattle.hamming.specs.declared.Checked.the-variants.{Clean}
 
-pub check-is : (w : ℕ) → checkAnswer w ≡ answerOf w (decoded w)
-unfolding checkAnswer
-check-is w = refl
+-- ---- the data alone: what the answer says is what the word says
 
--- the answer is data: the word says them
-pub told-data : (w : ℕ) (s : Said) (d : ℕ) → answerOf w s ≡ Data d → s ≡ says d
-told-data w (says e) d h = let q : e ≡ d = cc in ap says q
-told-data w damaged d h = absurd (let z : _≡_ {A = ℕ} 0 1 = cc in let q : ⊥ = omega arith in q)
+placed : (w k : ℕ) (b : Bool) → ltb k 16 ≡ b → saidOf (mendedAnswer w k) ≡ pick b (says (dataOf (flip k w))) damaged
+placed w k true e = rw e refl
+placed w k false e = rw e refl
 
--- the answer is a refusal: the word is damaged
-pub told-refused : (w : ℕ) (s : Said) (f : Refusal) → answerOf w s ≡ Refused f → s ≡ damaged
-told-refused w (says e) f h = absurd (let z : _≡_ {A = ℕ} 0 1 = cc in let q : ⊥ = omega arith in q)
-told-refused w damaged f h = refl
+coded : (w k : ℕ) (b : Bool) → saidOf (pick b (Clean (dataOf w)) (mendedAnswer w k)) ≡ pick b (says (dataOf w)) (mended w k)
+coded w k true = refl
+coded w k false = placed w k (ltb k 16) refl
+
+pub check-says : (w : ℕ) → saidOf (checkAnswer w) ≡ decoded w
+unfolding checkAnswer decoded
+check-says w = coded w (place w) (codeword w)
 
 mended-lt : (w k : ℕ) (b : Bool) → saidData (pick b (says (dataOf (flip k w))) damaged) < dataValues
 mended-lt w k true = mod-lt (flip k w) (lit< tt)

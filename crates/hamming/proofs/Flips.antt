@@ -17,8 +17,8 @@ use Rattle.hamming.specs.Word.{parity, encoded, codeword, dataOf, flip, 
 use Rattle.hamming.specs.Inner.{syndromeOf}
 use Rattle.hamming.proofs.Xor.{bit, xor-twice}
 use Rattle.hamming.proofs.Linear.{parity-xor, parity-lt}
-use Rattle.hamming.proofs.Codes.{syn-encoded, data-of-encoded, encoded-lt}
-use Rattle.hamming.proofs.Laws.{col, syn-flip, flip-lt, placeBy, place-by, decodedBy, decoded-by, or-use, away, mended-at, AtMostOne, says-is, odd-by, accepted-is}
+use Rattle.hamming.proofs.Codes.{syn-encoded, data-of-encoded, encoded-lt, codeword-syn}
+use Rattle.hamming.proofs.Laws.{col, syn-flip, flip-lt, placeBy, place-by, decodedBy, decoded-by, not-t, or-use, away, mended-at, AtMostOne, says-is, odd-by, accepted-is}
 
 -- ---- none
 
@@ -58,6 +58,13 @@ module _ (d k : ℕ) (h : d < 2048) (hk : k < 16) where
   -- and the bit that was flipped is the one that is named
   pub place-flip : place (flip k (encoded d)) ≡ k
   place-flip = place-by (flip k (encoded d)) one-lt ∙ ap placeBy one-syn ∙ one-place
+
+  -- nor is it a codeword itself
+  pub stray-flip : codeword (flip k (encoded d)) ≡ false
+  unfolding one-right
+  stray-flip =
+      codeword-syn (flip k (encoded d)) one-lt ∙ ap (λ (s : ℕ). eqb s 0) one-syn
+      ∙ not-t (eqb (col k) 0) (both-left (not (eqb (col k) 0)) (eqb (placeBy (col k)) k) (one-test k hk))
 
 -- ---- two
 

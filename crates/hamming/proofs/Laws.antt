@@ -63,7 +63,7 @@ unfolding decoded
 decoded-by w h =
     ap₂ (λ (b : Bool) (k : ℕ). pick b (says (dataOf w)) (mended w k)) (codeword-syn w h) (place-by w h)
 
-not-t : (b : Bool) → T (not b) → b ≡ false
+pub not-t : (b : Bool) → T (not b) → b ≡ false
 not-t true t = absurd t
 not-t false t = refl
 
@@ -87,7 +87,7 @@ place-right : (w : ℕ) → place w < 16 → codeword (flip (place w) w) ≡ tru
 unfolding place
 place-right w h = is-first (λ (k : ℕ). codeword (flip k w)) 0 16 .at h
 
-code-of : (w : ℕ) → codeword w ≡ true → w ≡ encoded (dataOf w)
+pub code-of : (w : ℕ) → codeword w ≡ true → w ≡ encoded (dataOf w)
 unfolding codeword
 code-of w e = eqb-true w (encoded (dataOf w)) e
 

@@ -1,4 +1,4 @@
--- The laws that callers cite are in Answers, Laws, Flips and Counts; the others lead there.
+-- The laws that callers cite are in Answers, Exactly, Laws, Flips and Counts; the others lead there.
 mod Xor
 mod Linear
 mod Codes
@@ -6,6 +6,7 @@ mod Folds
 mod Put
 mod Table
 pub mod Answers
+pub mod Exactly
 pub mod Laws
 pub mod Flips
 pub mod Counts

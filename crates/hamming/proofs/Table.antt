@@ -1,16 +1,17 @@
--- Decoding by the syndrome: 0 says the data, below 16 is damage, and from 16 on it points at the flipped bit. Assumes nothing.
-use mathlib.Core.Path.{_≡_, refl, sym, ap, _∙_, subst⁻¹}
-use mathlib.Core.Bool.{Bool, _||_}
+-- What the syndrome tells: 0 is a codeword, below 16 no flip makes one, and from 16 on it points at the flipped bit. Assumes nothing.
+use mathlib.Core.Path.{_≡_, sym, ap, _∙_, subst⁻¹}
+use mathlib.Core.Bool.{Bool, true, false, _||_}
 use Prim.Native.Nat.{ℕ, _+_, _*_, _/_, _%_, _^_, _<_, _≤_}
 use native.Mathlib.Nat.{not-le-of-lt, mod-lt}
 use native.Mathlib.Omega.{arith}
-use lib.Dec.{T, eqb, ltb, eqb→eq, ltb→lt, not-T, lit<}
+use lib.Dec.{T, eqb, ltb, eqb→eq, ltb→lt, lit<}
+use borrow.Author.Tests.{ne-eqb}
 use Rattle.lists.specs.First.{firstFrom}
 use Rattle.lists.proofs.Every.{at}
-use Rattle.hamming.specs.Word.{dataOf, flip, mended, decoded, says, damaged}
+use Rattle.hamming.specs.Word.{codeword, place}
 use Rattle.hamming.specs.Inner.{syndromeOf, spread}
-use Rattle.hamming.proofs.Codes.{syn-lt}
-use Rattle.hamming.proofs.Laws.{placeBy, decodedBy, decoded-by, or-use, away, mended-at}
+use Rattle.hamming.proofs.Codes.{syn-lt, codeword-syn}
+use Rattle.hamming.proofs.Laws.{placeBy, place-by, or-use}
 
 -- the bit that a syndrome from 16 on points at: a hexadecimal digit of the code's number for each of its last 16 values
 abbrev pub pointed : ℕ → ℕ
@@ -33,24 +34,24 @@ high-test : (s : ℕ) → s < 32 → T (high-right s)
 unfolding high-right placeBy firstFrom
 high-test s h = at high-right 5 tt s h
 
-pub at-zero : (w : ℕ) → w < 65536 → syndromeOf w ≡ 0 → decoded w ≡ says (dataOf w)
-at-zero w h e = decoded-by w h ∙ ap (λ (s : ℕ). decodedBy s w) e
+pub at-zero : (w : ℕ) → w < 65536 → syndromeOf w ≡ 0 → codeword w ≡ true
+at-zero w h e = codeword-syn w h ∙ ap (λ (s : ℕ). eqb s 0) e
 
-pub at-low : (w : ℕ) → w < 65536 → (syndromeOf w ≡ 0 → ⊥) → syndromeOf w < 16 → decoded w ≡ damaged
+pub not-zero : (w : ℕ) → w < 65536 → (syndromeOf w ≡ 0 → ⊥) → codeword w ≡ false
+not-zero w h n = codeword-syn w h ∙ ne-eqb (syndromeOf w) 0 n
+
+pub at-low : (w : ℕ) → w < 65536 → (syndromeOf w ≡ 0 → ⊥) → syndromeOf w < 16 → place w ≡ 16
 unfolding low-right
 at-low w h n l =
     let s = syndromeOf w in
-    away w s h refl (not-T (eqb s 0) (λ t. n (eqb→eq s 0 t)))
-    ∙ ap (mended w) (eqb→eq (placeBy s) 16 (or-use (eqb s 0) (eqb (placeBy s) 16) (low-test s l) (λ t. n (eqb→eq s 0 t))))
+    place-by w h ∙ eqb→eq (placeBy s) 16 (or-use (eqb s 0) (eqb (placeBy s) 16) (low-test s l) (λ t. n (eqb→eq s 0 t)))
 
-pub at-high : (w : ℕ) → w < 65536 → 16 ≤ syndromeOf w → decoded w ≡ says (dataOf (flip (pointed (syndromeOf w % 16)) w))
+pub at-high : (w : ℕ) → w < 65536 → 16 ≤ syndromeOf w → place w ≡ pointed (syndromeOf w % 16)
 unfolding high-right
 at-high w h g =
     let s = syndromeOf w in
-    let e : placeBy s ≡ pointed (s % 16) =
-    eqb→eq (placeBy s) (pointed (s % 16)) (or-use (ltb s 16) (eqb (placeBy s) (pointed (s % 16))) (high-test s (syn-lt w)) (λ q. not-le-of-lt (ltb→lt s 16 q) g)) in
-    away w s h refl (not-T (eqb s 0) (λ t. let e : s ≡ 0 = eqb→eq s 0 t in let x : 16 ≤ s = g in omega arith))
-    ∙ ap (mended w) e ∙ mended-at w (pointed (s % 16)) (pointed-lt (s % 16))
+    place-by w h
+    ∙ eqb→eq (placeBy s) (pointed (s % 16)) (or-use (ltb s 16) (eqb (placeBy s) (pointed (s % 16))) (high-test s (syn-lt w)) (λ q. not-le-of-lt (ltb→lt s 16 q) g))
 
 -- ---- the same of a syndrome whose digits are spread
 

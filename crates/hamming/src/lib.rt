@@ -11,8 +11,10 @@ pub enum Encoded {
     Refused(Refusal),
 }
 
+// A codeword is clean; one with a flipped bit is mended, the bit being 0 to 15.
 pub enum Checked {
-    Data(u16),
+    Clean(u16),
+    Mended { data: u16, bit: u8 },
     Refused(Refusal),
 }
 
@@ -78,13 +80,13 @@ pub fn encode(data: u16) -> Encoded
     }
 }
 
-// The data of a chip word, mended where one bit is flipped; a damaged word is refused.
+// The data of a chip word, clean or mended where one bit is flipped; a damaged word is refused.
 pub fn check(word: u16) -> Checked
     ensures { λ r. ⌜ r ≡ checkAnswer word ⌝ }
 {
     let odd = odd_bytes(word);
     if odd == 0 {
-        return Checked::Data(word % DATA_VALUES);
+        return Checked::Clean(word % DATA_VALUES);
     }
     if odd < P4 {
         return Checked::Refused(Refusal::DamagedWord {
@@ -94,5 +96,8 @@ pub fn check(word: u16) -> Checked
     }
     let value = ((odd * BESIDE) >> 24) % 16;
     let bit = (POINTED >> (value * 4)) % 16;
-    Checked::Data((word ^ (1 << bit)) % DATA_VALUES)
+    Checked::Mended {
+        data: (word ^ (1 << bit)) % DATA_VALUES,
+        bit: bit as u8,
+    }
 }

@@ -30,7 +30,8 @@ pub fn encode_differs(head: &[u8]) -> u8 {
 pub fn check_differs(head: &[u8]) -> u8 {
     let checked = hamming::check(stored::half_at(head, 2));
     let same = match checked {
-        Checked::Data(data) => answered_so(head, data),
+        Checked::Clean(data) => answered_so(head, data),
+        Checked::Mended { data, bit } => answered_so(head, data),
         Checked::Refused(refusal) => refused_so(head, refusal),
     };
     if same { stored::AGREES } else { stored::CHECK }

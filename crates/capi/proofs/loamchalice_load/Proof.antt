@@ -6,7 +6,7 @@ use Rattle.capi.proofs.loamchalice_load.Tie as tie
 
 returns : tie.Need-returns
 returns c =
-    let l = c .before .before .before .before .before .before .before .before .before .before .before .load in
+    let l = c .before .before .before .before .before .before .before .before .before .before .before .before .load in
     record {
       inner = l .result;
       loads = l .ensures;

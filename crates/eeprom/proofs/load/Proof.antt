@@ -23,37 +23,40 @@ module _ (c : tie.After-gate) where
   abbrev lent : Tables
   lent = let a = start .args in tables (a .offsets0 .now) (a .offsets1 .now) (a .alpha .now) (a .k-v .now) (a .k-ta .now)
 
-  gated : c .gate .result ≡ loadVerdict image lent
+  gated : c .gate .result .verdict ≡ loadVerdict image lent
   gated = rw (c .before .before .shortest-of .ensures) at (c .gate .ensures .0)
 
-  module _ (e : c .gate .result ≡ Pass) where
+  module _ (e : c .gate .result .verdict ≡ Pass) where
     words : at (c .gate .last .1 .1 .0) ≡ dataAt image
-    words = ap at (c .gate .ensures .1 e) ∙ words-are image _ (search needs)
+    words = ap at (c .gate .ensures .1 e .1) ∙ words-are image _ (search needs)
 
     passed : Passed (at (c .gate .last .1 .1 .0)) lent
     passed = subst (λ (w : ℕ → ℕ). Passed w lent) (sym words) (opened image lent (sym gated ∙ e))
 
 returns : tie.Need-returns
 returns c =
-    let e = c .before .enum-told2 .given .1 in
+    let e = c .before .before .enum-told2 .given .1 in
     record {
-      verdict = gated (c .before .before .before);
-      calibration = rw e (c .no-calibration .ensures);
+      verdict = gated (c .before .before .before .before .before);
+      calibration = rw e (c .before .no-calibration .ensures);
+      mending = rw e (c .no-mending .ensures);
       lent = rw e;
     }
 
 fill-all-requires : tie.Need-fill-all-requires
-fill-all-requires c κs = let p = c .before .before .before .before .before .before in passed (p .before .before) (p .enum-told .given .1)
+fill-all-requires c κs = let p = c .before .before .before .before .before .before in passed (p .before .before .before) (p .enum-told .given .1)
 
 returns-2 : tie.Need-returns-2
 returns-2 c =
     let f = c .before .before .before .before .before .before .before .before in
     let p = f .before .before .before .before .before .before .before in
     let e = p .enum-told .given .1 in
-    let q = words (p .before .before) e in
+    let g = p .before .before .before in
+    let q = words g e in
     record {
-      verdict = gated (p .before .before);
+      verdict = gated g;
       calibration = rw e (rw q at (f .fill-all .ensures .0));
+      mending = rw e (g .gate .ensures .1 e .0);
       lent = rw e (rw q at (f .fill-all .ensures .1));
     }
 
@@ -65,6 +68,7 @@ load-spec =
     (λ c κs. search needs)
     (λ c. search needs)
     (λ c. search needs)
+    (λ c κs. search needs)
     (λ c κs. search needs)
     returns
     fill-all-requires
