@@ -2,7 +2,7 @@
 use Prim.Native.Nat.{ℕ}
 use Rattle.refusal.specs.declared.Told.{Told}
 use Rattle.refusal.specs.declared.Refusal.{Refusal}
-use Rattle.refusal.specs.declared.Refusal.the-variants.{ShortImage, ShortTable, DamagedWord, LargeScale, OffsetRange, BasicRange, SupplyRange, ZeroDivisor, DataTooLarge}
+use Rattle.refusal.specs.declared.Refusal.the-variants.{ShortImage, ShortTable, DamagedWord, LargeScale, OffsetRange, BasicRange, SupplyRange, ZeroDivisor, DataTooLarge, PixelNumber}
 use Rattle.refusal.specs.declared.Verdict.{Verdict}
 use Rattle.refusal.specs.declared.Verdict.the-variants.{Pass, Refused}
 
@@ -19,6 +19,7 @@ toldOf (BasicRange range) = says 6 range 0
 toldOf SupplyRange = says 7 0 0
 toldOf ZeroDivisor = says 8 0 0
 toldOf (DataTooLarge given) = says 9 given 0
+toldOf (PixelNumber pixel) = says 14 pixel 0
 
 -- of a verdict: 0, 0, 0 where nothing is refused
 abbrev pub verdictTold : Verdict → Told

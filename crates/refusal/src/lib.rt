@@ -21,6 +21,8 @@ pub enum Refusal {
     ZeroDivisor,
     // 9: the data do not fit a chip word.
     DataTooLarge { data: u16 },
+    // 14: the bigger camera has no such pixel.
+    PixelNumber { pixel: usize },
 }
 
 // What a refusal says: its number, its place (where, or how much) and its value; 0 where there is nothing to say.
@@ -54,6 +56,7 @@ impl Refusal {
             Refusal::SupplyRange => said(7, 0, 0),
             Refusal::ZeroDivisor => said(8, 0, 0),
             Refusal::DataTooLarge { data } => said(9, data as u64, 0),
+            Refusal::PixelNumber { pixel } => said(14, pixel as u64, 0),
         }
     }
 }
