@@ -1,0 +1,4 @@
+-- The laws that callers cite.
+pub mod Fields
+pub mod Exact
+pub mod Entries
