@@ -1,2 +1,3 @@
 -- What crosses to C.
 pub mod Border
+pub mod Bigger

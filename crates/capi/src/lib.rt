@@ -20,6 +20,8 @@ use hamming::Encoded;
 use offsets::Offset;
 use refusal::Refusal;
 
+pub mod bigger;
+
 // A chip word's answer: number, place and value of the refusal, all 0 for none; and the word or its data, 0 after a refusal. Where a checked
 // word was mended `mended` is 1 and `bit` the bit that was flipped, 0 to 15; else both are 0.
 #[repr(C)]

@@ -15,6 +15,7 @@ pub const HEIGHT: usize = 24;
 pub const NUM_PIXELS: usize = WIDTH * HEIGHT;
 
 // A word's upper six bits, signed, and its lower ten as they stand.
+#[repr(C)]
 pub struct SixTen {
     pub six: i8,
     pub ten: u16,

@@ -1,6 +1,6 @@
 -- `mlx90640::access_pattern_corrections` meets its contract: three fields, each over its power of two. Assumes nothing.
 use borrow.Author.Needs.{needs}
-use mathlib.Core.Path.{_≡_, refl}
+use mathlib.Core.Path.{_≡_, refl, sym}
 use native.Mathlib.Omega.{arith}
 use lib.Ieee.{binary32, ofBits}
 use Rattle.floats.specs.Floats.{powerOfTwo}
@@ -26,9 +26,9 @@ returns c =
       back 5 _ _ (omega arith) (omega arith) (c .before .before .before .before .before .i8-from-bits .ensures),
       back 5 _ _ (omega arith) (omega arith) (c .before .before .before .i8-from-bits2 .ensures),
       back 6 _ _ (omega arith) (omega arith) (c .before .i8-from-bits3 .ensures),
-      eight,
-      two,
-      sixteen,
+      sym eight,
+      sym two,
+      sym sixteen,
     ) refl
 
 pub access-pattern-corrections-spec : {M : Type 1} → statement M
