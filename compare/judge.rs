@@ -2,6 +2,7 @@
 //!   judge [SEED [CARDS [FRAMES [PLANTED]]]]
 //! Any not-a-number of the crate's equals the library's, which must have the bits 0x7FC00000. What stops a call is worked out here
 //! afresh from document 01, and set beside the crate's errors and panics. The exit status is 0 if nothing disagreed.
+mod bigger;
 mod cards;
 mod document;
 mod frames;
@@ -32,6 +33,7 @@ fn main() {
     println!("seed {seed}, {cards} cards, {frames} frames, {}", std::env::consts::ARCH);
     let mut tally = Tally::new();
     words::compare(&mut tally);
+    bigger::compare(&mut tally);
     roots::compare(&mut tally);
     cards::compare(&mut tally, seed, cards);
     frames::compare(&mut tally, seed, frames);

@@ -5,7 +5,7 @@ use std::sync::OnceLock;
 #[path = "../bindings/rust/src/border.rs"]
 pub mod border;
 use border::{Heat, Reading};
-pub use border::{Answer, Load, Part, Ram, Record, Word};
+pub use border::{AccessPattern, Answer, Load, Part, PixelEntry, Ram, Record, SixTen, Word};
 
 /// The five tables of a card.
 #[derive(Clone, Debug)]
@@ -77,6 +77,63 @@ pub fn check(word: u16) -> Word {
         answer.bit = (1u32 << answer.bit) as u8;
     }
     answer
+}
+
+pub fn word_6_10_split(word: u16) -> SixTen {
+    let mut split = border::word_6_10_split(word);
+    if planted("bigger-six-of-five-bits") && split.six == -32 {
+        split.six = 0;
+    }
+    split
+}
+
+pub fn word_to_u4s(word: u16) -> [u8; 4] {
+    let mut nibbles = border::word_to_u4s(word);
+    if planted("bigger-u4s-exchanged") && word == 0x0010 {
+        nibbles.swap(2, 3);
+    }
+    nibbles
+}
+
+pub fn word_to_i4s(word: u16) -> [i8; 4] {
+    let mut nibbles = border::word_to_i4s(word);
+    if planted("bigger-i4-unsigned") && word == 0x0008 {
+        nibbles[3] = 8;
+    }
+    nibbles
+}
+
+pub fn access_pattern(word: u16) -> AccessPattern {
+    let mut access = border::access_pattern(word);
+    if planted("bigger-zero-not-negated") && access.pattern[2] == 0.0 {
+        access.pattern[2] = 0.0;
+    }
+    if planted("bigger-chess-2-one-up") && word == 0x0040 {
+        access.chess_2 = 1.0;
+    }
+    access
+}
+
+pub fn interleave_entry(pixel: usize) -> PixelEntry {
+    let mut entry = border::interleave_entry(pixel);
+    if planted("bigger-interleave-by-pixel") && entry.number == 0 {
+        entry.entry = entry.entry % 3 + pixel % 2 * 3;
+    }
+    if planted("bigger-interleave-takes-768") && pixel == 768 {
+        entry = PixelEntry { number: 0, place: 0, value: 0, entry: 0 };
+    }
+    entry
+}
+
+pub fn chessboard_entry(pixel: usize) -> PixelEntry {
+    let mut entry = border::chessboard_entry(pixel);
+    if planted("bigger-chessboard-exchanged") && entry.number == 0 {
+        entry.entry = [0, 2, 1, 3][entry.entry];
+    }
+    if planted("bigger-chessboard-without-place") {
+        entry.place = 0;
+    }
+    entry
 }
 
 pub fn alpha_row(image: &[u8], row: usize) -> Part {

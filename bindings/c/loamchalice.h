@@ -1,4 +1,5 @@
-/* Loamchalice for C: a chip card of the MLX90641 to a calibration, and its frames to infrared numbers and temperatures.
+/* Loamchalice for C: a chip card of the MLX90641 to a calibration, and its frames to infrared numbers and temperatures; and parts of the
+ * MLX90640's card, at the end.
  *
  * A slice is a pointer and a count of entries; with a count of 0 any pointer will do but NULL. Nothing is kept between calls, and there is
  * no heap. The only misuse that leads anywhere undefined is a wrong pointer or count, or two slices that overlap where one is written.
@@ -13,6 +14,7 @@
  *   7  v_dd_pixel - V_DD25 is outside 16 bits
  *   8  a divisor is zero, or the emissivity is zero or not a number
  *   9  data to encode is above 2047                          place: the data
+ *  14  the MLX90640 has no such pixel: 768 or more           place: the pixel
  *
  * Pixels are floats lent as their bits, uint32_t: the same size and alignment as float. Every not-a-number that a call writes is 0x7FC00000. */
 #ifndef LOAMCHALICE_H
@@ -114,6 +116,47 @@ loamchalice_answer loamchalice_raw_pixels_to_temperatures(
     const float *alpha, size_t alpha_length, const float *k_v, size_t k_v_length, const float *k_ta, size_t k_ta_length,
     const uint8_t *pixels, size_t pixels_length, const uint8_t *mask, size_t mask_length,
     uint32_t *destination, size_t destination_length);
+
+/* The MLX90640: 32 by 24 pixels, row by row. Its card is not loaded yet; these are the odd parts of it. */
+#define LOAMCHALICE_MLX90640_PIXELS 768
+
+typedef struct {
+    int8_t six;   /* the upper six bits, signed */
+    uint16_t ten; /* the lower ten as they stand */
+} loamchalice_mlx90640_six_ten;
+
+typedef struct {
+    uint8_t nibbles[4];
+} loamchalice_mlx90640_unsigned;
+
+typedef struct {
+    int8_t nibbles[4];
+} loamchalice_mlx90640_signed;
+
+/* The access pattern corrections, by the datasheet's numbers: from the top 5 bits over 8, 5 over 2 and 6 over 16, all signed and exact. With
+ * A chess_3, B chess_2 - A and C chess_2 + A the pattern is -A, B, -C, A, -B, C; a zero that is negated is -0. */
+typedef struct {
+    float chess_3, chess_2, chess_1;
+    float pattern[6];
+} loamchalice_mlx90640_access;
+
+typedef struct {
+    uint64_t number, place, value;
+    size_t entry; /* 0 after a refusal */
+} loamchalice_mlx90640_entry;
+
+loamchalice_mlx90640_six_ten loamchalice_mlx90640_word_6_10_split(uint16_t word);
+
+/* Four nibbles of a word, the uppermost first. */
+loamchalice_mlx90640_unsigned loamchalice_mlx90640_word_to_u4s(uint16_t word);
+loamchalice_mlx90640_signed loamchalice_mlx90640_word_to_i4s(uint16_t word);
+
+loamchalice_mlx90640_access loamchalice_mlx90640_access_pattern(uint16_t word);
+
+/* Which entry of the six of a pattern, and of the four of a chessboard, a pixel takes. On the chessboard 0 is an even row and an even column,
+ * 1 an odd row and an even column, 2 an even row and an odd column, 3 both odd. Refusal 14. */
+loamchalice_mlx90640_entry loamchalice_mlx90640_interleave_entry(size_t pixel);
+loamchalice_mlx90640_entry loamchalice_mlx90640_chessboard_entry(size_t pixel);
 
 #ifdef __cplusplus
 }

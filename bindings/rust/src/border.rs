@@ -72,11 +72,50 @@ pub struct Answer {
     pub t_a: u32,
 }
 
+#[repr(C)]
+#[derive(Clone, Copy, Debug, PartialEq)]
+pub struct SixTen {
+    pub six: i8,
+    pub ten: u16,
+}
+
+#[repr(C)]
+#[derive(Clone, Copy, Debug, PartialEq)]
+pub struct Unsigned {
+    pub nibbles: [u8; 4],
+}
+
+#[repr(C)]
+#[derive(Clone, Copy, Debug, PartialEq)]
+pub struct Signed {
+    pub nibbles: [i8; 4],
+}
+
+#[repr(C)]
+#[derive(Clone, Copy, Debug)]
+pub struct AccessPattern {
+    pub chess_3: f32,
+    pub chess_2: f32,
+    pub chess_1: f32,
+    pub pattern: [f32; 6],
+}
+
+#[repr(C)]
+#[derive(Clone, Copy, Debug, PartialEq)]
+pub struct PixelEntry {
+    pub number: u64,
+    pub place: u64,
+    pub value: u64,
+    pub entry: usize,
+}
+
 // What the archive hands over, on a processor of 64 bits.
 const _: () = {
     use std::mem::size_of;
     assert!(size_of::<Word>() == 32 && size_of::<Part>() == 16 && size_of::<Record>() == 100);
     assert!(size_of::<Load>() == 144 && size_of::<Ram>() == 10 && size_of::<Answer>() == 40);
+    assert!(size_of::<SixTen>() == 4 && size_of::<Unsigned>() == 4 && size_of::<Signed>() == 4);
+    assert!(size_of::<AccessPattern>() == 36 && size_of::<PixelEntry>() == 32);
 };
 
 #[rustfmt::skip]
@@ -107,6 +146,12 @@ extern "C" {
         k_v: *const f32, k_v_length: usize, k_ta: *const f32, k_ta_length: usize,
         pixels: *const u8, pixels_length: usize, mask: *const u8, mask_length: usize, destination: *mut u32, destination_length: usize,
     ) -> Answer;
+    fn loamchalice_mlx90640_word_6_10_split(word: u16) -> SixTen;
+    fn loamchalice_mlx90640_word_to_u4s(word: u16) -> Unsigned;
+    fn loamchalice_mlx90640_word_to_i4s(word: u16) -> Signed;
+    fn loamchalice_mlx90640_access_pattern(word: u16) -> AccessPattern;
+    fn loamchalice_mlx90640_interleave_entry(pixel: usize) -> PixelEntry;
+    fn loamchalice_mlx90640_chessboard_entry(pixel: usize) -> PixelEntry;
 }
 
 /// What both calls from pixels take.
@@ -249,4 +294,28 @@ pub fn raw_pixels_to_temperatures(r: &Reading, heat: &Heat, destination: &mut [u
             destination.len(),
         )
     }
+}
+
+pub fn word_6_10_split(word: u16) -> SixTen {
+    unsafe { loamchalice_mlx90640_word_6_10_split(word) }
+}
+
+pub fn word_to_u4s(word: u16) -> [u8; 4] {
+    unsafe { loamchalice_mlx90640_word_to_u4s(word) }.nibbles
+}
+
+pub fn word_to_i4s(word: u16) -> [i8; 4] {
+    unsafe { loamchalice_mlx90640_word_to_i4s(word) }.nibbles
+}
+
+pub fn access_pattern(word: u16) -> AccessPattern {
+    unsafe { loamchalice_mlx90640_access_pattern(word) }
+}
+
+pub fn interleave_entry(pixel: usize) -> PixelEntry {
+    unsafe { loamchalice_mlx90640_interleave_entry(pixel) }
+}
+
+pub fn chessboard_entry(pixel: usize) -> PixelEntry {
+    unsafe { loamchalice_mlx90640_chessboard_entry(pixel) }
 }

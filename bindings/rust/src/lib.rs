@@ -16,6 +16,7 @@
 //! # Ok::<(), loamchalice::Refusal>(())
 //! ```
 mod border;
+pub mod mlx90640;
 mod refusal;
 
 pub use refusal::Refusal;

@@ -22,6 +22,8 @@ pub enum Refusal {
     ZeroDivisor,
     /// 9: data to encode is above 2047.
     DataTooLarge { data: u16 },
+    /// 14: the pixel number is 768 or more, which the MLX90640 does not have.
+    PixelNumber { pixel: usize },
 }
 
 impl Refusal {
@@ -39,11 +41,12 @@ impl Refusal {
             7 => Refusal::SupplyRange,
             8 => Refusal::ZeroDivisor,
             9 => Refusal::DataTooLarge { data: place as u16 },
-            _ => unreachable!("the library has nine refusals"),
+            14 => Refusal::PixelNumber { pixel: at },
+            _ => unreachable!("the library has no such refusal"),
         })
     }
 
-    /// 1 to 9.
+    /// 1 to 9, or 14.
     pub fn number(self) -> u64 {
         match self {
             Refusal::ShortImage { .. } => 1,
@@ -55,6 +58,7 @@ impl Refusal {
             Refusal::SupplyRange => 7,
             Refusal::ZeroDivisor => 8,
             Refusal::DataTooLarge { .. } => 9,
+            Refusal::PixelNumber { .. } => 14,
         }
     }
 
@@ -67,6 +71,7 @@ impl Refusal {
             Refusal::OffsetRange { subpage, pixel } => (192 * subpage + pixel) as u64,
             Refusal::BasicRange { range } => range as u64,
             Refusal::DataTooLarge { data } => data.into(),
+            Refusal::PixelNumber { pixel } => pixel as u64,
             Refusal::ShortTable | Refusal::SupplyRange | Refusal::ZeroDivisor => 0,
         }
     }
@@ -93,6 +98,7 @@ impl fmt::Display for Refusal {
             Refusal::SupplyRange => write!(f, "the supply reading is too far from its reference"),
             Refusal::ZeroDivisor => write!(f, "a divisor is zero, or the emissivity is zero or not a number"),
             Refusal::DataTooLarge { data } => write!(f, "{data} is above 2047"),
+            Refusal::PixelNumber { pixel } => write!(f, "there is no pixel {pixel}, only 0 to 767"),
         }
     }
 }

@@ -83,3 +83,23 @@ fn no_gradient_is_not_gradient_zero_in_kind() {
     assert_eq!(camera.clone().with_gradient(None).temperature_gradient_coefficient(), None);
     assert_eq!(camera.with_gradient(Some(0.0)).temperature_gradient_coefficient(), Some(0.0));
 }
+
+#[test]
+fn the_bigger_camera_has_768_pixels() {
+    use loamchalice::mlx90640::{chessboard_entry, interleave_entry, NUM_PIXELS};
+    for pixel in [NUM_PIXELS, usize::MAX] {
+        let refused = Err(Refusal::PixelNumber { pixel });
+        assert_eq!((interleave_entry(pixel), chessboard_entry(pixel)), (refused, refused));
+    }
+    let refusal = interleave_entry(768).unwrap_err();
+    assert_eq!((refusal.number(), refusal.place(), refusal.value()), (14, 768, 0));
+    assert_eq!(refusal.to_string(), "refusal 14: there is no pixel 768, only 0 to 767");
+    assert_eq!((interleave_entry(767), chessboard_entry(767)), (Ok(5), Ok(3)));
+}
+
+#[test]
+fn a_zero_that_is_negated_is_minus_zero() {
+    let bits = |word| loamchalice::mlx90640::access_pattern_corrections(word).pattern.map(f32::to_bits);
+    let (plus, minus) = (0f32.to_bits(), (-0f32).to_bits());
+    assert_eq!(bits(0), [minus, plus, minus, plus, minus, plus]);
+}
