@@ -2,3 +2,4 @@
 pub mod Fields
 pub mod Exact
 pub mod Entries
+pub mod Formula
