@@ -1,23 +1,24 @@
--- A whole number of up to 24 bits over a power of two is not rounded, and so are the corrections. Assumes nothing.
+-- A whole number of up to 23 bits over a power of two is not rounded, so the corrections are not; nor are B and C, by Sums. Assumes nothing.
 use mathlib.Core.Path.{_≡_, sym, ap, _∙_, subst}
 use mathlib.Core.Bool.{Bool, true, false}
-use Prim.Native.Nat.{ℕ, suc, _+_, _-_, _*_, _^_, _<_, _≤_}
-use native.Mathlib.Nat.{mul-assoc, mul-comm, one-mul, mul-pos, lt-of-lt-of-le}
+use Prim.Native.Nat.{ℕ, suc, _+_, _-_, _*_, _/_, _%_, _^_, _<_, _≤_}
+use native.Mathlib.Nat.{mul-assoc, mul-comm, one-mul, mul-pos, mod-lt, lt-of-lt-of-le}
 use native.Mathlib.Omega.{arith}
 use lib.Pow.{pow-add, pow-pos, pow-mono, shl-lt}
-use lib.IntN.{ℤ, pos, negsuc}
+use lib.IntN.{ℤ, pos, negsuc, _+ℤ_, _-ℤ_, _*ℤ_}
 use lib.Signed.{mag}
 use lib.Ieee.{Float, nan, inf, fin, binary32, up, down, round, div, ofInt}
 use lib.Ieee.Back.{round-whole}
 use lib.Ieee.Exact.{HasValue, round-exact}
 use lib.Ieee.Fits.{down-pos}
 use lib.Ieee.Scale.{round-same}
-use Rattle.floats.specs.Floats.{powerOfTwo, over, _⊘_}
+use Rattle.floats.specs.Floats.{powerOfTwo, over, _⊕_, _⊖_, _⊘_}
 use Rattle.floats.proofs.Power.{power-below}
 use Rattle.util.specs.Fields.{signed}
-use Rattle.mlx90640.specs.Corrections.{correctionsOf}
+use Rattle.mlx90640.specs.Corrections.{correctionsOf, patternOf}
 use Rattle.mlx90640.specs.Exact.{Exactly, Exact}
-use Rattle.mlx90640.proofs.Fields.{small}
+use Rattle.mlx90640.proofs.Fields.{small, of-low}
+use Rattle.mlx90640.proofs.Sums.{difference, total}
 
 -- the fraction that a division rounds, in other words
 cross : (x n p d : ℕ) → x * 1 ≡ n * d → x * 1 * p ≡ n * (1 * p * d)
@@ -55,10 +56,18 @@ over-exact (negsuc n) e h l = divided (round binary32 true (suc n) 1) true (suc 
 field : (k n e : ℕ) → 1 ≤ k → k ≤ 8 → e ≤ 100 → Exactly (over (signed k n) e) (signed k n) e
 field k n e p q l = over-exact (signed k n) e (let h = small k n p q in omega arith) l
 
+-- what holds of two fields' low bits holds of the fields
+of-fields : (P : ℤ → ℤ → Type 0) (m n : ℕ) → ((three two : ℕ) → three < 32 → two < 32 → P (signed 5 three) (signed 5 two)) → P (signed 5 m) (signed 5 n)
+of-fields P m n h =
+    subst (λ (z : ℤ). P z (signed 5 n)) (of-low 5 m (omega arith))
+    (subst (P (signed 5 (m % 32))) (of-low 5 n (omega arith)) (h (m % 32) (n % 32) (mod-lt m (omega arith)) (mod-lt n (omega arith))))
+
 pub exact : (word : ℕ) → Exact word
-unfolding correctionsOf
+unfolding correctionsOf patternOf
 exact word = record {
   chess-3 = field 5 _ 3 (omega arith) (omega arith) (omega arith);
   chess-2 = field 5 _ 1 (omega arith) (omega arith) (omega arith);
   chess-1 = field 6 _ 4 (omega arith) (omega arith) (omega arith);
+  b = of-fields (λ (x y : ℤ). Exactly (over y 1 ⊖ over x 3) (pos 4 *ℤ y -ℤ x) 3) (word / 2 ^ 11) (word / 2 ^ 6) difference;
+  c = of-fields (λ (x y : ℤ). Exactly (over y 1 ⊕ over x 3) (pos 4 *ℤ y +ℤ x) 3) (word / 2 ^ 11) (word / 2 ^ 6) total;
 }

@@ -1,4 +1,5 @@
--- The laws that callers cite.
+-- The laws that callers cite; Sums leads to Exact.
+mod Sums
 pub mod Fields
 pub mod Exact
 pub mod Entries

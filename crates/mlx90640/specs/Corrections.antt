@@ -15,7 +15,7 @@ correctionsOf word = record {
   «chess_1» = over (signed 6 word) 4;
 }
 
--- -A, B, -C, A, -B, C
+-- A is the first, B the second less the first, C their sum: -A, B, -C, A, -B, C
 unfoldable pub patternOf : Corrections → List Float
 patternOf corrections =
     let a = corrections .«chess_3» in
