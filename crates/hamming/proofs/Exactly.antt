@@ -23,9 +23,9 @@ pub clean-is : (w : ℕ) → codeword w ≡ true → checkAnswer w ≡ Clean (da
 unfolding checkAnswer
 clean-is w e = ap (λ (b : Bool). pick b (Clean (dataOf w)) (mendedAnswer w (place w))) e
 
-not-clean : (w k d : ℕ) (b : Bool) → pick b (Mended (dataOf (flip k w)) k) (Refused (DamagedWord 0 w)) ≡ Clean d → ⊥
-not-clean w k d true e = let z : _≡_ {A = ℕ} 0 1 = cc in omega arith
-not-clean w k d false e = let z : _≡_ {A = ℕ} 0 1 = cc in omega arith
+not-clean : (w k d : ℕ) (b : Bool) → ltb k 16 ≡ b → mendedAnswer w k ≡ Clean d → ⊥
+not-clean w k d true l e = let f = rw l at e in let z : _≡_ {A = ℕ} 0 1 = cc in omega arith
+not-clean w k d false l e = let f = rw l at e in let z : _≡_ {A = ℕ} 0 1 = cc in omega arith
 
 pub clean-only : (w d : ℕ) → checkAnswer w ≡ Clean d → codeword w ≡ true
 unfolding checkAnswer
@@ -33,7 +33,7 @@ clean-only w d e = go (codeword w) e
   where
     go : (b : Bool) → pick b (Clean (dataOf w)) (mendedAnswer w (place w)) ≡ Clean d → b ≡ true
     go true e = refl
-    go false e = absurd (not-clean w (place w) d (ltb (place w) 16) e)
+    go false e = absurd (not-clean w (place w) d (ltb (place w) 16) refl e)
 
 -- ---- mended exactly if the flip of that bit is a codeword
 
@@ -66,13 +66,14 @@ pub mended-only : (w d k : ℕ) → checkAnswer w ≡ Mended d k → MendedAt w 
 unfolding checkAnswer place
 mended-only w d k e = go (codeword w) refl e
   where
-    placed : (b : Bool) → codeword w ≡ false → ltb (place w) 16 ≡ b → pick b (Mended (dataOf (flip (place w) w)) (place w)) (Refused (DamagedWord 0 w)) ≡ Mended d k → MendedAt w d k
+    placed : (b : Bool) → codeword w ≡ false → ltb (place w) 16 ≡ b → mendedAnswer w (place w) ≡ Mended d k → MendedAt w d k
     placed true c l e =
+        let f = rw l at e in
         let q : place w ≡ k = cc in
         let r : dataOf (flip (place w) w) ≡ d = cc in
         let h : place w < 16 = ltb-true (place w) 16 l in
         record { stray = c; within = rw q at h; code = rw q at (is-first (λ (j : ℕ). codeword (flip j w)) 0 16 .at h); says = rw q at r }
-    placed false c l e = absurd (let z : _≡_ {A = ℕ} 0 1 = cc in let q : ⊥ = omega arith in q)
+    placed false c l e = absurd (let f = rw l at e in let z : _≡_ {A = ℕ} 0 1 = cc in let q : ⊥ = omega arith in q)
 
     go : (b : Bool) → codeword w ≡ b → pick b (Clean (dataOf w)) (mendedAnswer w (place w)) ≡ Mended d k → MendedAt w d k
     go true c e = absurd (let z : _≡_ {A = ℕ} 0 1 = cc in let q : ⊥ = omega arith in q)
