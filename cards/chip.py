@@ -108,17 +108,6 @@ def mending(image):
     return len(stray), (stray or [WORDS])[-1]
 
 
-def offset_entry(w, entry):
-    """raw × 2^scale, and its sum with the average."""
-    raw = signed(11, w[64 + entry] if entry < 192 else w[640 + entry - 192])
-    part = raw * 2 ** (w[16] >> 5)
-    return part, signed(16, combined(w[17], w[18])) + part
-
-
-def fits(z):
-    return -32768 <= z <= 32767
-
-
 def verdict(image, shortest=ENTRIES):
     """Number, place and value."""
     if len(image) < BYTES:
@@ -128,16 +117,16 @@ def verdict(image, shortest=ENTRIES):
     w = data_of(image)
     if None in w:
         return 3, w.index(None), words_of(image)[w.index(None)]
-    if w[16] >> 5 >= 15:
+    if w[16] >> 5 >= 21:
         return 4, w[16] >> 5, 0
-    for entry in range(2 * ENTRIES):
-        if not all(fits(z) for z in offset_entry(w, entry)):
-            return 5, entry, 0
     return 0, 0, 0
 
 
 def offset(image, entry):
-    return offset_entry(data_of(image), entry)[1]
+    """average + raw × 2^scale, the average 16 bits and the raw offset 11 bits signed: document 02, CR 4 and CR 10."""
+    w = data_of(image)
+    raw = signed(11, w[64 + entry] if entry < 192 else w[640 + entry - 192])
+    return signed(16, combined(w[17], w[18])) + raw * 2 ** (w[16] >> 5)
 
 
 def alpha(image, pixel):

@@ -86,13 +86,8 @@ impl Code {
             Err(damaged) => return damaged,
         };
         let scale = data[16] / 32;
-        if scale >= 15 {
+        if scale >= 21 {
             return (4, u64::from(scale), 0);
-        }
-        for entry in 0..384 {
-            if i16::try_from(product(&data, entry)).is_err() || i16::try_from(offset(&data, entry)).is_err() {
-                return (5, entry as u64, 0);
-            }
         }
         (0, 0, 0)
     }

@@ -146,7 +146,7 @@ fn wild_tables(n: &mut Numbers, f: &mut Frame) {
     }
     for slot in t.offsets.iter_mut().flatten() {
         if n.one_in(odds) {
-            *slot = n.word();
+            *slot = n.word().into();
         }
     }
     for byte in f.pixels.iter_mut() {

@@ -10,7 +10,7 @@ pub use border::{AccessPattern, Answer, Load, Part, PixelEntry, Ram, Record, Six
 /// The five tables of a card.
 #[derive(Clone, Debug)]
 pub struct Tables {
-    pub offsets: [Vec<i16>; 2],
+    pub offsets: [Vec<i32>; 2],
     pub alpha: Vec<f32>,
     pub k_v: Vec<f32>,
     pub k_ta: Vec<f32>,
@@ -140,7 +140,7 @@ pub fn alpha_row(image: &[u8], row: usize) -> Part {
     border::alpha_row(image, row)
 }
 
-pub fn subpage_offsets(zero: &[i16], one: &[i16], subpage: u8) -> Part {
+pub fn subpage_offsets(zero: &[i32], one: &[i32], subpage: u8) -> Part {
     border::subpage_offsets([zero, one], subpage)
 }
 

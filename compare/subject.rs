@@ -49,7 +49,13 @@ impl<const RANGE: usize, const HEAT: usize> MelexisCamera for Camera<RANGE, HEAT
 pub struct Held<'t, const RANGE: usize, const HEAT: usize> {
     pub record: &'t Record,
     pub tables: &'t Tables,
+    pub offsets: [Vec<i16>; 2],
     pub v_dd_0: f32,
+}
+
+// The crate's offsets are 16 bits: the comparison's frames have no others.
+fn narrow(tables: &Tables) -> [Vec<i16>; 2] {
+    [0, 1].map(|s| tables.offsets[s].iter().map(|x| (*x).try_into().expect("an offset of 16 bits")).collect())
 }
 
 impl<'a, 't, const RANGE: usize, const HEAT: usize> CalibrationData<'a> for Held<'t, RANGE, HEAT> {
@@ -97,7 +103,7 @@ impl<'a, 't, const RANGE: usize, const HEAT: usize> CalibrationData<'a> for Held
 
     type OffsetReferenceIterator = slice::Iter<'a, i16>;
     fn offset_reference_pixels(&'a self, subpage: Subpage) -> Self::OffsetReferenceIterator {
-        self.tables.offsets[subpage as usize].iter()
+        self.offsets[subpage as usize].iter()
     }
     fn offset_reference_cp(&self, _: Subpage) -> i16 {
         self.record.offset_reference_cp
@@ -160,20 +166,20 @@ fn ram(f: &Frame) -> calculations::RamData {
 }
 
 pub fn raw_pixels_to_ir_data(f: &Frame, destination: &mut [f32]) -> f32 {
-    let held = Held::<2, 0> { record: &f.record, tables: &f.tables, v_dd_0: f.v_dd_0 };
+    let held = Held::<2, 0> { record: &f.record, tables: &f.tables, offsets: narrow(&f.tables), v_dd_0: f.v_dd_0 };
     let mut valid = f.mask.iter().map(|byte| *byte != 0);
     let pattern = AccessPattern::Interleave;
     calculations::raw_pixels_to_ir_data(&held, f.emissivity, f.resolution_correction, &f.pixels, ram(f), subpage(f), pattern, &mut valid, destination)
 }
 
 fn to_temperatures<const RANGE: usize, const HEAT: usize>(f: &Frame, t_a: f32, destination: &mut [f32]) {
-    let held = Held::<RANGE, HEAT> { record: &f.record, tables: &f.tables, v_dd_0: f.v_dd_0 };
+    let held = Held::<RANGE, HEAT> { record: &f.record, tables: &f.tables, offsets: narrow(&f.tables), v_dd_0: f.v_dd_0 };
     let mut valid = f.mask.iter().map(|byte| *byte != 0);
     calculations::raw_ir_to_temperatures(&held, f.emissivity, t_a, f.reflected, subpage(f), &mut valid, destination)
 }
 
 fn in_one_pass<const RANGE: usize, const HEAT: usize>(f: &Frame, destination: &mut [f32]) -> f32 {
-    let held = Held::<RANGE, HEAT> { record: &f.record, tables: &f.tables, v_dd_0: f.v_dd_0 };
+    let held = Held::<RANGE, HEAT> { record: &f.record, tables: &f.tables, offsets: narrow(&f.tables), v_dd_0: f.v_dd_0 };
     let mut valid = f.mask.iter().map(|byte| *byte != 0);
     calculations::raw_pixels_to_temperatures(
         &held,

@@ -69,7 +69,7 @@ fn readers(tally: &mut Tally) {
             }
         }
     }
-    let table = vec![0i16; 400];
+    let table = vec![0i32; 400];
     for zero in [0, 1, 191, 192, 193, 400] {
         for one in [0, 1, 191, 192, 193, 400] {
             for subpage in 0..=u8::MAX {

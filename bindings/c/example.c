@@ -20,7 +20,7 @@ static float number(uint32_t bits) {
 
 int main(int argc, char **argv) {
     static uint8_t image[LOAMCHALICE_IMAGE_BYTES];
-    static int16_t offsets0[192], offsets1[192];
+    static int32_t offsets0[192], offsets1[192];
     static float alpha[192], k_v[192], k_ta[192];
     static uint8_t pixels[384], mask[192];
     static uint32_t picture[192];

@@ -8,8 +8,7 @@
  *   1  the image is below 1,664 bytes                        place: its length
  *   2  a table that the call takes has fewer than 192 entries
  *   3  a chip word is damaged                                place: the word's number, value: its bits
- *   4  the offset scale is 15 or more                        place: the scale
- *   5  an offset is outside 16 bits                          place: 192 times the subpage plus the pixel
+ *   4  the offset scale is 21 or more                        place: the scale
  *   6  the basic range is above 7                            place: the range
  *   7  v_dd_pixel - V_DD25 is outside 16 bits
  *   8  a divisor is zero, or the emissivity is zero or not a number
@@ -79,10 +78,10 @@ loamchalice_word loamchalice_check(uint16_t word);
 /* The fourth root of x, as its bits: two square roots, each the nearest float. */
 uint32_t loamchalice_root(float x);
 
-/* Loads a card into five tables of 192 entries or more; entries past 192 stay. Refusals 1 to 5. */
+/* Loads a card into five tables of 192 entries or more; entries past 192 stay. Refusals 1 to 4. */
 loamchalice_loaded loamchalice_load(
     const uint8_t *image, size_t image_length,
-    int16_t *offsets0, size_t offsets0_length, int16_t *offsets1, size_t offsets1_length,
+    int32_t *offsets0, size_t offsets0_length, int32_t *offsets1, size_t offsets1_length,
     float *alpha, size_t alpha_length, float *k_v, size_t k_v_length, float *k_ta, size_t k_ta_length);
 
 /* Where the 64 bytes of a row of alpha, 0 to 5, stand in the image; 0 and 0 for a higher row or a short image. Refuses nothing. */
@@ -90,13 +89,13 @@ loamchalice_part loamchalice_alpha_row(const uint8_t *image, size_t image_length
 
 /* Where the offsets of a subpage stand in its own table: its first 192, or none if it is shorter. Subpage 0 is the first table, any other
  * number the second. Refuses nothing. */
-loamchalice_part loamchalice_subpage_offsets(const int16_t *zero, size_t zero_length, const int16_t *one, size_t one_length, uint8_t subpage);
+loamchalice_part loamchalice_subpage_offsets(const int32_t *zero, size_t zero_length, const int32_t *one, size_t one_length, uint8_t subpage);
 
 /* Pixels, two bytes each and the upper first, to infrared numbers. Mask byte i belongs to pixel i: 0, or no byte left, leaves it.
  * At most 192 pixels, the destination's length, and half the pixel bytes. Refusals 2, 7, 8. */
 loamchalice_answer loamchalice_raw_pixels_to_ir_data(
     loamchalice_record calibration, float emissivity, float resolution_correction, float v_dd_0, loamchalice_ram ram, uint8_t subpage,
-    const int16_t *offsets0, size_t offsets0_length, const int16_t *offsets1, size_t offsets1_length,
+    const int32_t *offsets0, size_t offsets0_length, const int32_t *offsets1, size_t offsets1_length,
     const float *k_v, size_t k_v_length, const float *k_ta, size_t k_ta_length,
     const uint8_t *pixels, size_t pixels_length, const uint8_t *mask, size_t mask_length,
     uint32_t *destination, size_t destination_length);
@@ -112,7 +111,7 @@ loamchalice_answer loamchalice_raw_ir_to_temperatures(
 loamchalice_answer loamchalice_raw_pixels_to_temperatures(
     loamchalice_record calibration, float emissivity, float resolution_correction, float v_dd_0, loamchalice_ram ram, uint8_t subpage,
     size_t basic_range, uint8_t reflected_given, float reflected,
-    const int16_t *offsets0, size_t offsets0_length, const int16_t *offsets1, size_t offsets1_length,
+    const int32_t *offsets0, size_t offsets0_length, const int32_t *offsets1, size_t offsets1_length,
     const float *alpha, size_t alpha_length, const float *k_v, size_t k_v_length, const float *k_ta, size_t k_ta_length,
     const uint8_t *pixels, size_t pixels_length, const uint8_t *mask, size_t mask_length,
     uint32_t *destination, size_t destination_length);

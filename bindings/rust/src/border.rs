@@ -124,14 +124,14 @@ extern "C" {
     fn loamchalice_encode(data: u16) -> Word;
     fn loamchalice_check(word: u16) -> Word;
     fn loamchalice_alpha_row(image: *const u8, length: usize, row: usize) -> Part;
-    fn loamchalice_subpage_offsets(zero: *const i16, zero_length: usize, one: *const i16, one_length: usize, subpage: u8) -> Part;
+    fn loamchalice_subpage_offsets(zero: *const i32, zero_length: usize, one: *const i32, one_length: usize, subpage: u8) -> Part;
     fn loamchalice_load(
-        image: *const u8, length: usize, offsets0: *mut i16, offsets0_length: usize, offsets1: *mut i16, offsets1_length: usize,
+        image: *const u8, length: usize, offsets0: *mut i32, offsets0_length: usize, offsets1: *mut i32, offsets1_length: usize,
         alpha: *mut f32, alpha_length: usize, k_v: *mut f32, k_v_length: usize, k_ta: *mut f32, k_ta_length: usize,
     ) -> Load;
     fn loamchalice_raw_pixels_to_ir_data(
         calibration: Record, emissivity: f32, resolution_correction: f32, v_dd_0: f32, ram: Ram, subpage: u8,
-        offsets0: *const i16, offsets0_length: usize, offsets1: *const i16, offsets1_length: usize,
+        offsets0: *const i32, offsets0_length: usize, offsets1: *const i32, offsets1_length: usize,
         k_v: *const f32, k_v_length: usize, k_ta: *const f32, k_ta_length: usize,
         pixels: *const u8, pixels_length: usize, mask: *const u8, mask_length: usize, destination: *mut u32, destination_length: usize,
     ) -> Answer;
@@ -142,7 +142,7 @@ extern "C" {
     fn loamchalice_raw_pixels_to_temperatures(
         calibration: Record, emissivity: f32, resolution_correction: f32, v_dd_0: f32, ram: Ram, subpage: u8,
         basic_range: usize, reflected_given: u8, reflected: f32,
-        offsets0: *const i16, offsets0_length: usize, offsets1: *const i16, offsets1_length: usize, alpha: *const f32, alpha_length: usize,
+        offsets0: *const i32, offsets0_length: usize, offsets1: *const i32, offsets1_length: usize, alpha: *const f32, alpha_length: usize,
         k_v: *const f32, k_v_length: usize, k_ta: *const f32, k_ta_length: usize,
         pixels: *const u8, pixels_length: usize, mask: *const u8, mask_length: usize, destination: *mut u32, destination_length: usize,
     ) -> Answer;
@@ -162,7 +162,7 @@ pub struct Reading<'a> {
     pub v_dd_0: f32,
     pub ram: Ram,
     pub subpage: u8,
-    pub offsets: [&'a [i16]; 2],
+    pub offsets: [&'a [i32]; 2],
     pub k_v: &'a [f32],
     pub k_ta: &'a [f32],
     pub pixels: &'a [u8],
@@ -193,11 +193,11 @@ pub fn alpha_row(image: &[u8], row: usize) -> Part {
     unsafe { loamchalice_alpha_row(image.as_ptr(), image.len(), row) }
 }
 
-pub fn subpage_offsets([zero, one]: [&[i16]; 2], subpage: u8) -> Part {
+pub fn subpage_offsets([zero, one]: [&[i32]; 2], subpage: u8) -> Part {
     unsafe { loamchalice_subpage_offsets(zero.as_ptr(), zero.len(), one.as_ptr(), one.len(), subpage) }
 }
 
-pub fn load(image: &[u8], [zero, one]: [&mut [i16]; 2], alpha: &mut [f32], k_v: &mut [f32], k_ta: &mut [f32]) -> Load {
+pub fn load(image: &[u8], [zero, one]: [&mut [i32]; 2], alpha: &mut [f32], k_v: &mut [f32], k_ta: &mut [f32]) -> Load {
     unsafe {
         loamchalice_load(
             image.as_ptr(),

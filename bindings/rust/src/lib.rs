@@ -178,7 +178,7 @@ pub fn alpha_row(image: &[u8], row: usize) -> &[u8] {
 /// assert_eq!(subpage_offsets(&[0; 200], &[7; 191], Subpage::Zero), &[0; 192]);
 /// assert!(subpage_offsets(&[0; 200], &[7; 191], Subpage::One).is_empty());
 /// ```
-pub fn subpage_offsets<'a>(zero: &'a [i16], one: &'a [i16], subpage: Subpage) -> &'a [i16] {
+pub fn subpage_offsets<'a>(zero: &'a [i32], one: &'a [i32], subpage: Subpage) -> &'a [i32] {
     let part = border::subpage_offsets([zero, one], subpage as u8);
     let table = match subpage {
         Subpage::Zero => zero,
@@ -201,14 +201,14 @@ pub fn fourth_root(x: f32) -> f32 {
 pub struct Calibration {
     record: border::Record,
     mended: Mended,
-    offsets: [[i16; 192]; 2],
+    offsets: [[i32; 192]; 2],
     alpha: [f32; 192],
     k_v: [f32; 192],
     k_ta: [f32; 192],
 }
 
 impl Calibration {
-    /// Loads a card's image: 1,664 bytes, what follows is ignored. Refusals 1, 3, 4, 5.
+    /// Loads a card's image: 1,664 bytes, what follows is ignored. Refusals 1, 3, 4.
     ///
     /// ```
     /// use loamchalice::{Calibration, Refusal};
@@ -261,7 +261,7 @@ impl Calibration {
     }
 
     /// The offsets of a subpage.
-    pub fn offset_reference_pixels(&self, subpage: Subpage) -> &[i16; 192] {
+    pub fn offset_reference_pixels(&self, subpage: Subpage) -> &[i32; 192] {
         &self.offsets[subpage as usize]
     }
 

@@ -10,10 +10,8 @@ pub enum Refusal {
     ShortTable,
     /// 3: a chip word is neither a codeword nor one flip away from one.
     DamagedWord { word: usize, bits: u16 },
-    /// 4: the offset scale is 15 or more.
+    /// 4: the offset scale is 21 or more.
     OffsetScale { scale: u16 },
-    /// 5: a pixel's offset is outside 16 bits.
-    OffsetRange { subpage: usize, pixel: usize },
     /// 6: the basic range is above 7.
     BasicRange { range: usize },
     /// 7: the supply reading is too far from its reference.
@@ -36,7 +34,6 @@ impl Refusal {
             2 => Refusal::ShortTable,
             3 => Refusal::DamagedWord { word: at, bits: value as u16 },
             4 => Refusal::OffsetScale { scale: place as u16 },
-            5 => Refusal::OffsetRange { subpage: at / 192, pixel: at % 192 },
             6 => Refusal::BasicRange { range: at },
             7 => Refusal::SupplyRange,
             8 => Refusal::ZeroDivisor,
@@ -46,14 +43,13 @@ impl Refusal {
         })
     }
 
-    /// 1 to 9, or 14.
+    /// 1 to 4, 6 to 9, or 14; 5 is no longer used.
     pub fn number(self) -> u64 {
         match self {
             Refusal::ShortImage { .. } => 1,
             Refusal::ShortTable => 2,
             Refusal::DamagedWord { .. } => 3,
             Refusal::OffsetScale { .. } => 4,
-            Refusal::OffsetRange { .. } => 5,
             Refusal::BasicRange { .. } => 6,
             Refusal::SupplyRange => 7,
             Refusal::ZeroDivisor => 8,
@@ -68,7 +64,6 @@ impl Refusal {
             Refusal::ShortImage { length } => length as u64,
             Refusal::DamagedWord { word, .. } => word as u64,
             Refusal::OffsetScale { scale } => scale.into(),
-            Refusal::OffsetRange { subpage, pixel } => (192 * subpage + pixel) as u64,
             Refusal::BasicRange { range } => range as u64,
             Refusal::DataTooLarge { data } => data.into(),
             Refusal::PixelNumber { pixel } => pixel as u64,
@@ -92,8 +87,7 @@ impl fmt::Display for Refusal {
             Refusal::ShortImage { length } => write!(f, "the image has {length} bytes, a card 1664"),
             Refusal::ShortTable => write!(f, "a table has fewer than 192 entries"),
             Refusal::DamagedWord { word, bits } => write!(f, "word {word} is damaged: {bits:#06X}"),
-            Refusal::OffsetScale { scale } => write!(f, "the offset scale is {scale}, above 14"),
-            Refusal::OffsetRange { subpage, pixel } => write!(f, "the offset of pixel {pixel}, subpage {subpage}, is outside 16 bits"),
+            Refusal::OffsetScale { scale } => write!(f, "the offset scale is {scale}, above 20"),
             Refusal::BasicRange { range } => write!(f, "there is no basic range {range}, only 0 to 7"),
             Refusal::SupplyRange => write!(f, "the supply reading is too far from its reference"),
             Refusal::ZeroDivisor => write!(f, "a divisor is zero, or the emissivity is zero or not a number"),

@@ -210,7 +210,7 @@ fn record_out(calibration: Calibration) -> Record
     }
 }
 
-// Loads a card. Refusals 1 to 5; after one the tables are as before. Entries past 192 stay.
+// Loads a card. Refusals 1 to 4; after one the tables are as before. Entries past 192 stay.
 #[no_mangle]
 pub extern "C" fn loamchalice_load(
     image: &[u8],

@@ -12,8 +12,7 @@ use Rattle.refusal.proofs.Order.{passed}
 use Rattle.map.specs.Map.{cardWords, imageBytes, framePixels}
 use Rattle.card.specs.Card.{dataAt, firstDamaged}
 use Rattle.card.proofs.Data.{data-lt}
-use Rattle.offsets.specs.Offsets.{entries, offsetScale, firstOutside}
-use Rattle.offsets.proofs.Range.{none-outside}
+use Rattle.offsets.specs.Offsets.{scales, offsetScale}
 use Rattle.eeprom.specs.Load.{Tables, dataTests, loadTests, loadVerdict}
 use Rattle.eeprom.specs.Inner.{Passed}
 
@@ -24,11 +23,9 @@ opened image t e =
     let q = passed _ _ _ (p .1) in
     let r = passed _ _ _ (q .1) in
     let s = passed _ _ _ (r .1) in
-    let o = passed _ _ _ (s .1) in
     record {
       small = data-lt image;
       scale = leb-false _ _ (s .0);
-      inside = none-outside (dataAt image) (ltb-false _ _ (o .0));
       long = ltb-false _ _ (q .0);
     }
 

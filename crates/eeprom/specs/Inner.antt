@@ -1,15 +1,12 @@
 -- For inner functions only: what a gate that lets pass has found out. Assumes nothing.
 use Prim.Native.Nat.{ℕ, _<_, _≤_}
-use mathlib.Core.Path.{_≡_}
-use mathlib.Core.Bool.{false}
 use Rattle.hamming.specs.Word.{dataValues}
 use Rattle.map.specs.Map.{framePixels}
-use Rattle.offsets.specs.Offsets.{entries, offsetScale, outsideAt}
+use Rattle.offsets.specs.Offsets.{scales, offsetScale}
 use Rattle.eeprom.specs.Load.{Tables, shortest}
 
 -- of the data of words and of five tables
 pub record Passed (w : ℕ → ℕ) (t : Tables) : Type 0 where
   pub small : (k : ℕ) → w k < dataValues
-  pub scale : offsetScale w < 15
-  pub inside : (k : ℕ) → k < entries → outsideAt w k ≡ false
+  pub scale : offsetScale w < scales
   pub long : framePixels ≤ shortest t

@@ -7,14 +7,14 @@ use lib.IntN.{ℤ}
 use lib.ListN.{length}
 use lib.Ieee.{Float}
 use Rattle.lists.specs.Written.{filled}
-use Rattle.refusal.specs.declared.Refusal.the-variants.{ShortImage, ShortTable, DamagedWord, LargeScale, OffsetRange}
+use Rattle.refusal.specs.declared.Refusal.the-variants.{ShortImage, ShortTable, DamagedWord, LargeScale}
 use Rattle.refusal.specs.declared.Verdict.{Verdict}
 use Rattle.refusal.specs.Refusal.{unless}
 use Rattle.refusal.specs.Order.{Test, _refuses_, firstOf}
 use Rattle.util.specs.Words.{wordAt}
 use Rattle.map.specs.Map.{cardWords, imageBytes, framePixels}
 use Rattle.card.specs.Card.{dataAt, firstDamaged, mendingOf, noMending}
-use Rattle.offsets.specs.Offsets.{entries, offsetScale, firstOutside, offsetAt}
+use Rattle.offsets.specs.Offsets.{scales, offsetScale, offsetAt}
 use Rattle.tables.specs.declared.K.the-variants.{KTa, KV}
 use Rattle.tables.specs.Tables.{alphaAt, kAt}
 use Rattle.calibration.specs.Calibration.{calibrationOf, noCalibration}
@@ -50,8 +50,7 @@ filledTables w t =
 -- of the data of the words
 unfoldable pub dataTests : (ℕ → ℕ) → List Test
 dataTests w =
-    leb 15 (offsetScale w) refuses LargeScale (offsetScale w)
-    ∷ ltb (firstOutside w) entries refuses OffsetRange (firstOutside w)
+    leb scales (offsetScale w) refuses LargeScale (offsetScale w)
     ∷ []
 
 -- of an image and the length of the shortest table

@@ -18,8 +18,8 @@ use map::IMAGE_BYTES;
 use map::PIXELS;
 use map::WORDS;
 use map::Words;
-use offsets::ENTRIES;
 use offsets::Offset;
+use offsets::SCALES;
 use refusal::Refusal;
 use refusal::Verdict;
 use tables::K;
@@ -53,17 +53,13 @@ fn shortest_of(offsets0: usize, offsets1: usize, alpha: usize, k_v: usize, k_ta:
     )
 }
 
-// Refusals 4 and 5, of the data of a card's words.
+// Refusal 4, of the data of a card's words.
 fn data_gate(words: &Words) -> Verdict
     ensures { λ r. ⌜ r ≡ firstOf (dataTests (at (now (words .entry)))) ⌝ }
 {
     let scale = offsets::offset_scale(words);
-    if 15 <= scale {
+    if SCALES <= scale {
         return Verdict::Refused(Refusal::LargeScale { scale });
-    }
-    let entry = offsets::first_outside(words);
-    if entry < ENTRIES {
-        return Verdict::Refused(Refusal::OffsetRange { entry });
     }
     Verdict::Pass
 }

@@ -125,11 +125,12 @@ fn offsets_0() -> [Offset; 200] {
     offsets
 }
 
+// Pixels 0 and 191 have offsets half way between two f32: the even one is below the first in size, and above the other.
 fn offsets_1() -> [Offset; 200] {
     let mut offsets: [Offset; 200] = [-65; 200];
-    offsets[0] = -80;
+    offsets[0] = 17825793;
     offsets[1] = -32768;
-    offsets[191] = -31;
+    offsets[191] = -16777219;
     offsets
 }
 

@@ -21,11 +21,11 @@ fn wide(byte: u8) -> u64 {
 }
 
 // How far a number is from 0.
-fn magnitude(z: i16) -> u64 {
+fn magnitude(z: Offset) -> u64 {
     if z < 0 { (-1 - z) as u64 + 1 } else { z as u64 }
 }
 
-fn tab_signed(z: i16) {
+fn tab_signed(z: Offset) {
     io::write_all(STDOUT_FILENO, b"\t");
     if z < 0 {
         io::write_all(STDOUT_FILENO, b"-");
@@ -146,7 +146,7 @@ pub fn watched(label: &[u8], image: &Image, size: usize, short: u8) {
 
 // ---- Offsets: the answer, and the offset of an entry, which is 192 times the subpage plus the pixel
 
-fn entry_of(offsets0: &[Offset; 192], offsets1: &[Offset; 192], entry: usize) -> i16 {
+fn entry_of(offsets0: &[Offset; 192], offsets1: &[Offset; 192], entry: usize) -> Offset {
     if entry < 192 {
         return offsets0[entry];
     }

@@ -65,29 +65,23 @@ fn damage() {
 
 // ---- Two refusals at once: the lower number is told
 
-// The first `size` bytes of the image that has these bits in word 830, this offset scale and this raw offset at entry 0. Wrong are
-// the bits 3, the scale 15, and the raw offset 2 at both scales.
-fn two(label: &[u8], size: usize, short: u8, late: u16, scale: u16, raw: u16) {
+// The first `size` bytes of the image that has these bits in word 830 and this offset scale. Wrong are the bits 3 and the scale 21.
+fn two(label: &[u8], size: usize, short: u8, late: u16, scale: u16) {
     let mut image = [0u8; 1665];
     load_case::put(&mut image, 830, late);
     load_case::put_scale(&mut image, scale, 0);
-    load_case::put_data(&mut image, 64, raw);
     load_case::watched(label, &image, size, short);
 }
 
 fn pairs() {
-    two(b"1 and 2", 1663, 3, 0, 14, 0);
-    two(b"1 and 3", 1663, 6, 3, 14, 0);
-    two(b"1 and 4", 1663, 6, 0, 15, 0);
-    two(b"1 and 5", 1663, 6, 0, 14, 2);
-    two(b"2 and 3", 1664, 5, 3, 14, 0);
-    two(b"2 and 4", 1664, 4, 0, 15, 0);
-    two(b"2 and 5", 1664, 2, 0, 14, 2);
-    two(b"3 and 4", 1664, 6, 3, 15, 0);
-    two(b"3 and 5", 1664, 6, 3, 14, 2);
-    two(b"4 and 5", 1664, 6, 0, 15, 2);
-    two(b"1 to 5", 1663, 1, 3, 15, 2);
-    two(b"none of 1 to 5", 1664, 6, 0, 14, 0);
+    two(b"1 and 2", 1663, 3, 0, 20);
+    two(b"1 and 3", 1663, 6, 3, 20);
+    two(b"1 and 4", 1663, 6, 0, 21);
+    two(b"2 and 3", 1664, 5, 3, 20);
+    two(b"2 and 4", 1664, 4, 0, 21);
+    two(b"3 and 4", 1664, 6, 3, 21);
+    two(b"1 to 4", 1663, 1, 3, 21);
+    two(b"none of 1 to 4", 1664, 6, 0, 20);
 }
 
 // ---- Offsets
@@ -106,15 +100,6 @@ fn offset(label: &[u8], scale: u16, average: u16, entry: usize, raw: u16) {
     load_case::with_offset(label, &image, entry);
 }
 
-// Both raw offsets are outside.
-fn outside_twice() {
-    let mut image = [0u8; 1665];
-    load_case::put_scale(&mut image, 14, 0);
-    load_case::put_data(&mut image, 640, 2);
-    load_case::put_data(&mut image, 255, 2);
-    load_case::with_offset(b"outside 191 and 192", &image, 191);
-}
-
 // 0x9800 is one flip off the chip word of 1.
 fn mended() {
     let mut image = [0u8; 1665];
@@ -122,9 +107,8 @@ fn mended() {
     load_case::with_offset(b"mended 100", &image, 36);
 }
 
-// The label says scale, average and raw offset: the offset is average + raw × 2^scale. At scale 14 the part is 16384, -32768 or 32768, and
-// the last is outside; at scale 5 raw 1023 gives 32736, which 31 may be added to and 32 may not. From 1024 on an average has more than 11
-// bits.
+// The label says scale, average and raw offset: the offset is average + raw × 2^scale. Up to scale 14 the crate's 16 bits may hold it; an
+// average from 1024 on has more than the crate's 11 bits. At scale 20 raw and average are at their ends too.
 fn offsets() {
     offset(b"14, 0, 1", 14, 0, 0, 1);
     offset(b"14, 0, -2", 14, 0, 0, 2046);
@@ -135,18 +119,20 @@ fn offsets() {
     offset(b"14, -1, 2 at 383", 14, 65535, 383, 2);
     offset(b"14, 0, 1 at 229", 14, 0, 229, 1);
     offset(b"14, -1, -2", 14, 65535, 5, 2046);
-    offset(b"5, 31, 1023", 5, 31, 0, 1023);
     offset(b"5, 32, 1023", 5, 32, 0, 1023);
-    offset(b"5, 0, -1024", 5, 0, 383, 1024);
     offset(b"5, -1, -1024", 5, 65535, 383, 1024);
     offset(b"0, -1024, -1024", 0, 64512, 191, 1024);
     offset(b"0, 1024, 0", 0, 1024, 0, 0);
     offset(b"5, 2047, 1023", 5, 2047, 0, 1023);
     offset(b"5, 2047, -1024", 5, 2047, 383, 1024);
-    offset(b"0, 32767, 0", 0, 32767, 0, 0);
     offset(b"0, 32767, 1 at 229", 0, 32767, 229, 1);
     offset(b"0, -32768, -1 at 191", 0, 32768, 191, 2047);
-    outside_twice();
+    offset(b"15, 0, 1", 15, 0, 0, 1);
+    offset(b"20, 1, 17", 20, 1, 0, 17);
+    offset(b"20, -1, 1", 20, 65535, 1, 1);
+    offset(b"20, 32767, 1023", 20, 32767, 383, 1023);
+    offset(b"20, -32768, -1024", 20, 32768, 383, 1024);
+    offset(b"21, 0, 0", 21, 0, 0, 0);
     mended();
 }
 
@@ -241,9 +227,9 @@ fn rows() {
 }
 
 fn subpages() {
-    let short = [-191i16; 191];
-    let full = [-192i16; 192];
-    let long = [200i16; 200];
+    let short = [-191i32; 191];
+    let full = [-192i32; 192];
+    let long = [200i32; 200];
     load_case::subpage(b"subpage 0 of 192 and 200", &full, &long, Subpage::Zero);
     load_case::subpage(b"subpage 1 of 192 and 200", &full, &long, Subpage::One);
     load_case::subpage(b"subpage 0 of 191 and 192", &short, &full, Subpage::Zero);

@@ -1,14 +1,16 @@
 -- Document 01: pixel offset = average + raw × 2^scale, over `w`, the data of a card's words by their numbers. `wordOf` is the map's.
 -- Assumes nothing.
 use Prim.Native.Nat.{ℕ, _+_, _-_, _*_, _/_, _^_}
-use mathlib.Core.Bool.{Bool, not, _&&_}
 use lib.Dec.{ltb}
 use lib.IntN.{ℤ, pos, _+ℤ_, _*ℤ_}
 use Rattle.lists.specs.Pick.{pick}
-use Rattle.lists.specs.First.{firstFrom}
-use Rattle.util.specs.Fields.{signed, combined, inI16}
+use Rattle.util.specs.Fields.{signed, combined}
 use Rattle.map.specs.declared.Field.the-variants.{OffsetScale, OffsetAverage, Offset0, Offset1}
 use Rattle.map.specs.Map.{framePixels, wordOf}
+
+-- scales 0 to 20 are taken (document 02, CR 10)
+abbrev pub scales : ℕ
+scales = 21
 
 -- upper 6 bits
 unfoldable pub offsetScale : (ℕ → ℕ) → ℕ
@@ -37,11 +39,3 @@ productAt w entry = productOf (w (entryWord entry)) (offsetScale w)
 
 unfoldable pub offsetAt : (ℕ → ℕ) → ℕ → ℤ
 offsetAt w entry = averageOf w +ℤ productAt w entry
-
--- raw × 2^scale, or its sum with the average, is outside
-unfoldable pub outsideAt : (ℕ → ℕ) → ℕ → Bool
-outsideAt w entry = not (inI16 (productAt w entry) && inI16 (offsetAt w entry))
-
--- the first such entry, or 384
-unfoldable pub firstOutside : (ℕ → ℕ) → ℕ
-firstOutside w = firstFrom (outsideAt w) 0 entries

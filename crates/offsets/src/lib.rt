@@ -1,6 +1,5 @@
-// Pixel offsets: average + raw × 2^scale, for both subpages, and the first that its type does not hold.
+// Pixel offsets: average + raw × 2^scale, for both subpages.
 ghost use mathlib.Core.Path.{_≡_};
-ghost use mathlib.Core.Bool.{false};
 ghost use Prim.Native.Nat.{ℕ, _+_, _<_, _≤_};
 ghost use lib.IntN.{_+ℤ_};
 ghost use lib.ListN.{length};
@@ -8,17 +7,17 @@ ghost use lib.Signed.{mag};
 ghost use Rattle.lists.specs.Written.{filled};
 ghost use Rattle.map.specs.Map.{cardWords, framePixels};
 ghost use Rattle.card.specs.Inner.{at};
-ghost use Rattle.offsets.specs.Offsets.{entries, offsetScale, offsetAverage, entryWord, productOf, productAt, outsideAt, firstOutside, offsetAt};
+ghost use Rattle.offsets.specs.Offsets.{entries, scales, offsetScale, offsetAverage, entryWord, productOf, productAt, offsetAt};
 ghost use Rattle.offsets.specs.Inner.{basisOf};
 use card::Cursor;
 use map::PIXELS;
 use map::Words;
 
 // The type of a pixel's offset.
-pub type Offset = i16;
+pub type Offset = i32;
 
-// The offsets of both subpages.
-pub const ENTRIES: usize = 384;
+// Scales are 0 to 20: with those every offset fits its type.
+pub const SCALES: u16 = 21;
 
 // What all pixels' offsets share, words 16 to 18.
 pub struct Basis {
@@ -58,7 +57,7 @@ pub fn offset_scale(words: &Words) -> u16
 
 // A raw offset, which is 11 bits signed, times 2^scale.
 fn product(raw: u16, scale: u16) -> i32
-    requires { ⌜ scale < 15 ⌝ }
+    requires { ⌜ scale < scales ⌝ }
     ensures { λ r. ⌜ r ≡ productOf raw scale ⌝ }
 {
     let raw = util::i16_from_bits(util::wide(raw), 11);
@@ -67,7 +66,7 @@ fn product(raw: u16, scale: u16) -> i32
 
 // The sum of the average and a product.
 fn sum(average: i16, part: i32) -> i32
-    requires { ⌜ mag part ≤ 16777216 ⌝ }
+    requires { ⌜ mag part ≤ 1073741824 ⌝ }
     ensures { λ r. ⌜ r ≡ average +ℤ part ⌝ }
 {
     average as i32 + part
@@ -87,56 +86,24 @@ fn entry_word(entry: usize) -> usize
 
 // An entry's raw × 2^scale.
 fn product_at(words: &Words, basis: Basis, entry: usize) -> i32
-    requires { ⌜ (entry < entries) × (basis ≡ basisOf (at (now words))) × (basis .scale < 15) ⌝ }
-    ensures { λ r. ⌜ (r ≡ productAt (at (now (words .entry))) entry) × (mag r ≤ 16777216) ⌝ }
+    requires { ⌜ (entry < entries) × (basis ≡ basisOf (at (now words))) × (basis .scale < scales) ⌝ }
+    ensures { λ r. ⌜ (r ≡ productAt (at (now (words .entry))) entry) × (mag r ≤ 1073741824) ⌝ }
 {
     let word = entry_word(entry);
     product(words[word], basis.scale)
 }
 
-// Whether an entry's offset, or its product before the average, is one that the type does not hold.
-fn outside(words: &Words, basis: Basis, entry: usize) -> bool
-    requires { ⌜ (entry < entries) × (basis ≡ basisOf (at (now words))) × (basis .scale < 15) ⌝ }
-    ensures { λ r. ⌜ r ≡ outsideAt (at (now (words .entry))) entry ⌝ }
-{
-    let part = product_at(words, basis, entry);
-    if util::fits_i16(part) {
-        !util::fits_i16(sum(basis.average, part))
-    } else {
-        true
-    }
-}
-
-// The first entry whose offset is outside, or 384.
-pub fn first_outside(words: &Words) -> usize
-    requires { ⌜ offsetScale (at (now words)) < 15 ⌝ }
-    ensures { λ r. ⌜ r ≡ firstOutside (at (now (words .entry))) ⌝ }
-{
-    let basis = read_basis(words);
-    let mut entry: usize = 0;
-    let place = loop {
-        if entry == ENTRIES {
-            break ENTRIES;
-        }
-        if outside(words, basis, entry) {
-            break entry;
-        }
-        entry += 1;
-    };
-    place
-}
-
-// The offset of an entry that is not outside.
+// The offset of an entry.
 fn offset_at(words: &Words, basis: Basis, entry: usize) -> Offset
-    requires { ⌜ (entry < entries) × (basis ≡ basisOf (at (now words))) × (basis .scale < 15) × (outsideAt (at (now words)) entry ≡ false) ⌝ }
+    requires { ⌜ (entry < entries) × (basis ≡ basisOf (at (now words))) × (basis .scale < scales) ⌝ }
     ensures { λ r. ⌜ r ≡ offsetAt (at (now (words .entry))) entry ⌝ }
 {
-    sum(basis.average, product_at(words, basis, entry)) as Offset
+    sum(basis.average, product_at(words, basis, entry))
 }
 
 // A subpage's offsets, from its first entry on, into the start of a table.
 pub fn fill_offsets(words: &Words, first: usize, table: &mut [Offset])
-    requires { ⌜ (offsetScale (at (now words)) < 15) × ((k : ℕ) → k < entries → outsideAt (at (now words)) k ≡ false) ⌝ }
+    requires { ⌜ offsetScale (at (now words)) < scales ⌝ }
     requires { ⌜ (first ≤ framePixels) × (framePixels ≤ length (now table)) ⌝ }
     ensures { λ _. ⌜ now (table .exit) ≡ filled (λ k. offsetAt (at (now (words .entry))) (first + k)) framePixels (now (table .entry)) ⌝ }
 {

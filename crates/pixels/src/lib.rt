@@ -38,11 +38,11 @@ fn reading_at(pixels: &[u8], i: usize) -> f32
     util::i16_from_bits(util::wide(word), 16) as f32
 }
 
-// An offset as a number.
+// An offset as a number, rounded once to the nearest.
 fn real(offset: Offset) -> f32
     ensures { λ r. ⌜ r ≡ real offset ⌝ }
 {
-    offset as f32
+    std::num::nearest_i32_to_f32(offset)
 }
 
 // Pixel i's infrared number.

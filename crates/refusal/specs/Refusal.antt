@@ -2,7 +2,7 @@
 use Prim.Native.Nat.{ℕ}
 use Rattle.refusal.specs.declared.Told.{Told}
 use Rattle.refusal.specs.declared.Refusal.{Refusal}
-use Rattle.refusal.specs.declared.Refusal.the-variants.{ShortImage, ShortTable, DamagedWord, LargeScale, OffsetRange, BasicRange, SupplyRange, ZeroDivisor, DataTooLarge, PixelNumber}
+use Rattle.refusal.specs.declared.Refusal.the-variants.{ShortImage, ShortTable, DamagedWord, LargeScale, BasicRange, SupplyRange, ZeroDivisor, DataTooLarge, PixelNumber}
 use Rattle.refusal.specs.declared.Verdict.{Verdict}
 use Rattle.refusal.specs.declared.Verdict.the-variants.{Pass, Refused}
 
@@ -14,7 +14,6 @@ toldOf (ShortImage length) = says 1 length 0
 toldOf ShortTable = says 2 0 0
 toldOf (DamagedWord word bits) = says 3 word bits
 toldOf (LargeScale scale) = says 4 scale 0
-toldOf (OffsetRange entry) = says 5 entry 0
 toldOf (BasicRange range) = says 6 range 0
 toldOf SupplyRange = says 7 0 0
 toldOf ZeroDivisor = says 8 0 0

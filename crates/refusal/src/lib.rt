@@ -9,10 +9,8 @@ pub enum Refusal {
     ShortTable,
     // 3: a checked word is neither a codeword nor one flip away from one.
     DamagedWord { word: usize, bits: u16 },
-    // 4: the offset scale is 15 or more.
+    // 4: the offset scale is 21 or more.
     LargeScale { scale: u16 },
-    // 5: a pixel's offset leaves its type. Entry is 192 times the subpage plus the pixel.
-    OffsetRange { entry: usize },
     // 6: there is no such temperature range.
     BasicRange { range: usize },
     // 7: the supply reading is too far from its reference.
@@ -51,7 +49,6 @@ impl Refusal {
             Refusal::ShortTable => said(2, 0, 0),
             Refusal::DamagedWord { word, bits } => said(3, word as u64, bits as u64),
             Refusal::LargeScale { scale } => said(4, scale as u64, 0),
-            Refusal::OffsetRange { entry } => said(5, entry as u64, 0),
             Refusal::BasicRange { range } => said(6, range as u64, 0),
             Refusal::SupplyRange => said(7, 0, 0),
             Refusal::ZeroDivisor => said(8, 0, 0),

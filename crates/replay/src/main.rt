@@ -9,11 +9,11 @@
 //   1  encode: data given, chip word answered.
 //   2  check: chip word given, data answered.
 //   3  a card that loads: image length given. 1,696 bytes: 0 lengths of the five tables, 16 the image. The tables have 77 everywhere
-//      before. Then record and tables as loaded, 3,172 bytes: those of 5 and 6. Entries past 192 stay.
+//      before. Then record and tables as loaded, 3,940 bytes: those of 5 and 6. Entries past 192 stay.
 //   4  a card that is refused: likewise, with nothing behind the 1,696 bytes. All entries stay.
 //   5  a record for the frames that follow. 100 bytes: 0 K_VPTAT, K_TPTAT, V_PTAT25, alpha_PTAT, gain, K_sTa, emissivity, alpha_CP,
 //      K_V CP, K_Ta CP, gradient, 44 K_sTo, 76 corners, 92 K_VDD, V_DD25, offset CP, 98 resolution, 99 whether there is a gradient.
-//   6  tables for the frames that follow. 3,072 bytes: 0 both offsets, 768 alpha, 1,536 K_V, 2,304 K_Ta, 192 entries each.
+//   6  tables for the frames that follow. 3,840 bytes: 0 both offsets, four bytes each, 1,536 alpha, 2,304 K_V, 3,072 K_Ta, 192 entries each.
 //   7  frame, on the last record and tables, loaded or stored. 4,720 bytes: 0 emissivity, resolution correction, v_dd_0, 12 five RAM
 //      words, 22 subpage, 23 whether the reflected temperature is given, 24 range, 28 reflected temperature or self-heating, 32 t_a for the
 //      second call, 36 lengths: five tables, 46 pixel bytes, 48 mask, 50 destination. 53 what the crate did in the three calls, 56

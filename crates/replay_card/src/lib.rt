@@ -61,10 +61,10 @@ fn tables_same(
     k_ta: &[f32],
 ) -> bool {
     stored::wholes_same(answer, 100, stored::wholes(offsets0, 192))
-        && stored::wholes_same(answer, 484, stored::wholes(offsets1, 192))
-        && stored::reals_same(answer, 868, stored::reals(alpha, 192))
-        && stored::reals_same(answer, 1636, stored::reals(k_v, 192))
-        && stored::reals_same(answer, 2404, stored::reals(k_ta, 192))
+        && stored::wholes_same(answer, 868, stored::wholes(offsets1, 192))
+        && stored::reals_same(answer, 1636, stored::reals(alpha, 192))
+        && stored::reals_same(answer, 2404, stored::reals(k_v, 192))
+        && stored::reals_same(answer, 3172, stored::reals(k_ta, 192))
 }
 
 // ---- A record: eleven numbers, eight K_sTo at 44, eight corners at 76, then wholes at 92, 94 and 96, resolution at 98, and at 99
@@ -96,11 +96,22 @@ fn numbers_same(answer: &[u8], record: Calibration) -> bool {
         && number_same(answer, 36, record.k_ta_cp)
 }
 
+fn corners_same(answer: &[u8], corners: [i16; 8]) -> bool {
+    stored::whole_at(answer, 76) == corners[0]
+        && stored::whole_at(answer, 78) == corners[1]
+        && stored::whole_at(answer, 80) == corners[2]
+        && stored::whole_at(answer, 82) == corners[3]
+        && stored::whole_at(answer, 84) == corners[4]
+        && stored::whole_at(answer, 86) == corners[5]
+        && stored::whole_at(answer, 88) == corners[6]
+        && stored::whole_at(answer, 90) == corners[7]
+}
+
 fn rest_same(answer: &[u8], record: Calibration) -> bool {
     let k_s_to = record.k_s_to;
     let corners = record.corner_temperatures;
     stored::reals_same(answer, 44, &k_s_to)
-        && stored::wholes_same(answer, 76, &corners)
+        && corners_same(answer, corners)
         && stored::whole_at(answer, 92) == record.k_v_dd
         && stored::whole_at(answer, 94) == record.v_dd_25
         && stored::whole_at(answer, 96) == record.offset_reference_cp

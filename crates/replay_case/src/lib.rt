@@ -54,7 +54,7 @@ fn good_card(
     k_ta: &mut [f32; 200],
 ) -> Case {
     let mut block = [0u8; 1696];
-    let mut answer = [0u8; 3172];
+    let mut answer = [0u8; 3940];
     let n = io::read_full(STDIN_FILENO, &mut block);
     let m = io::read_full(STDIN_FILENO, &mut answer);
     let loaded = replay_card::load(head, &block, offsets0, offsets1, alpha, k_v, k_ta);
@@ -62,7 +62,7 @@ fn good_card(
     if n < 1696 {
         return last(stored::STREAM, record);
     }
-    if m < 3172 {
+    if m < 3940 {
         return last(stored::STREAM, record);
     }
     let differs = replay_card::good_differs(
@@ -117,16 +117,16 @@ fn tables_of_frames(
     k_v: &mut [f32; 200],
     k_ta: &mut [f32; 200],
 ) -> Case {
-    let mut block = [0u8; 3072];
+    let mut block = [0u8; 3840];
     let n = io::read_full(STDIN_FILENO, &mut block);
-    if n < 3072 {
+    if n < 3840 {
         return last(stored::STREAM, record);
     }
     stored::wholes_into(&block, 0, offsets0);
-    stored::wholes_into(&block, 384, offsets1);
-    stored::reals_into(&block, 768, alpha);
-    stored::reals_into(&block, 1536, k_v);
-    stored::reals_into(&block, 2304, k_ta);
+    stored::wholes_into(&block, 768, offsets1);
+    stored::reals_into(&block, 1536, alpha);
+    stored::reals_into(&block, 2304, k_v);
+    stored::reals_into(&block, 3072, k_ta);
     counted(NOTHING, stored::AGREES, record)
 }
 

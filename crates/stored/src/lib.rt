@@ -49,6 +49,18 @@ pub fn whole_at(block: &[u8], at: usize) -> i16 {
     util::i16_from_bits(util::wide(half_at(block, at)), 16)
 }
 
+fn signed(word: u32) -> i32 {
+    if word < 2147483648 {
+        return word as i32;
+    }
+    let below = (4294967295 - word) as i32;
+    -1 - below
+}
+
+pub fn offset_at(block: &[u8], at: usize) -> Offset {
+    signed(word_at(block, at))
+}
+
 pub fn real_at(block: &[u8], at: usize) -> f32 {
     floats::from_bits(word_at(block, at))
 }
@@ -119,10 +131,10 @@ pub fn wholes_same(block: &[u8], from: usize, table: &[Offset]) -> bool {
     let mut at = from;
     let mut i = 0;
     while i < table.len() {
-        if table[i] != whole_at(block, at) {
+        if table[i] != offset_at(block, at) {
             return false;
         }
-        at = std::num::wrapping_add_usize(at, 2);
+        at = std::num::wrapping_add_usize(at, 4);
         i += 1;
     }
     true
@@ -183,8 +195,8 @@ pub fn reals_kept(table: &[f32], from: usize) -> bool {
 pub fn wholes_into(block: &[u8], from: usize, table: &mut [Offset; 200]) {
     let mut at = from;
     for i in 0..192usize {
-        table[i] = whole_at(block, at);
-        at = std::num::wrapping_add_usize(at, 2);
+        table[i] = offset_at(block, at);
+        at = std::num::wrapping_add_usize(at, 4);
     }
 }
 

@@ -6,7 +6,7 @@ use native.Mathlib.Omega.{arith}
 use lib.Dec.{T}
 use lib.IntN.{ℤ, pos, negsuc, natAbs, _-ℤ_}
 use lib.Signed.{mag, nonNeg, ltZ}
-use mir.Syntax.{w16}
+use mir.Syntax.{w32}
 use mir.Val.{toZ, ofZ}
 use mir.Facts.{toZ-ofZ}
 use borrow.Author.Needs.{needs}
@@ -14,9 +14,9 @@ use borrow.Author.Tests.{ltb-true, le-ltb}
 use Rattle.load_case.proofs.magnitude.Statement.{statement}
 use Rattle.load_case.proofs.magnitude.Tie as tie
 
--- within an i16 and not below zero
+-- within an i32 and not below zero
 abbrev Small : ℤ → Type 0
-Small z = (mag z < 32768) × T (nonNeg z) × (natAbs z < 32768)
+Small z = (mag z < 2147483648) × T (nonNeg z) × (natAbs z < 2147483648)
 
 clash : {A : Type 0} → false ≡ true → A
 clash e = absurd (let z : _≡_ {A = ℕ} 0 1 = cc in let q : ⊥ = omega arith in q)
@@ -24,11 +24,11 @@ clash e = absurd (let z : _≡_ {A = ℕ} 0 1 = cc in let q : ⊥ = omega arith 
 minus : (n : ℕ) → negsuc 0 -ℤ negsuc n ≡ pos n
 minus n = rw (le-ltb (suc n) 1 (omega arith)) (ap pos (omega arith))
 
-below : (z : ℤ) → ltZ z (pos 0) ≡ true → mag z < 32768 → Small (negsuc 0 -ℤ z)
+below : (z : ℤ) → ltZ z (pos 0) ≡ true → mag z < 2147483648 → Small (negsuc 0 -ℤ z)
 below (pos n) e h = let l = ltb-true n 0 e in absurd (let q : ⊥ = omega arith in q)
 below (negsuc n) e h = subst Small (sym (minus n)) (h, tt, h)
 
-above : (z : ℤ) → ltZ z (pos 0) ≡ false → mag z < 32768 → Small z
+above : (z : ℤ) → ltZ z (pos 0) ≡ false → mag z < 2147483648 → Small z
 above (pos n) e h = (h, tt, h)
 above (negsuc n) e h = clash (sym e)
 
@@ -39,7 +39,7 @@ sub-result : tie.Need-sub-result
 sub-result c = let e = toZ-ofZ (c .before .fits .z) in rw e (record { sfits = of-then c .0 })
 
 -- read back twice
-twice : (c : tie.Then1) → toZ w16 (ofZ w16 (negsuc 0 -ℤ toZ w16 (ofZ w16 (c .before .args .z)))) ≡ negsuc 0 -ℤ c .before .args .z
+twice : (c : tie.Then1) → toZ w32 (ofZ w32 (negsuc 0 -ℤ toZ w32 (ofZ w32 (c .before .args .z)))) ≡ negsuc 0 -ℤ c .before .args .z
 twice c = toZ-ofZ (sub-result c) ∙ ap (λ (v : ℤ). negsuc 0 -ℤ v) (toZ-ofZ (c .before .fits .z))
 
 cast-result : tie.Need-cast-result

@@ -1,14 +1,14 @@
--- `offsets::fill_offsets` meets its contract: entry after entry, none of them outside. Assumes nothing.
+-- `offsets::fill_offsets` meets its contract: entry after entry. Assumes nothing.
 use borrow.Author.Needs.{needs, sfits-of}
 use mathlib.Core.Path.{sym, _∙_, subst}
 use Prim.Native.Nat.{ℕ, _+_, _-_, _<_}
 use native.Mathlib.Omega.{arith}
-use mir.Syntax.{w16}
+use mir.Syntax.{w32}
 use mir.Facts.{toZ-ofZ}
 use Rattle.lists.proofs.Fill as fill
 use Rattle.lists.proofs.Fill.{Filling}
 use Rattle.card.specs.Inner.{at}
-use Rattle.offsets.specs.Offsets.{offsetAt}
+use Rattle.offsets.specs.Offsets.{scales, offsetAt}
 use Rattle.offsets.proofs.Range.{scale-is}
 use Rattle.offsets.proofs.fill_offsets.Statement.{statement}
 use Rattle.offsets.proofs.fill_offsets.Tie as tie
@@ -24,7 +24,7 @@ loop-holds c = fill.start _ _ _
 
 loop-again : tie.Need-loop-again Inv-loop μ-loop
 loop-again c =
-    fill.one-more _ (c .before .before .loop .inv) (c .before .loop-test .taken) (toZ-ofZ {w = w16} (sfits-of (c .offset-at .ok)) ∙ c .offset-at .ensures)
+    fill.one-more _ (c .before .before .loop .inv) (c .before .loop-test .taken) (toZ-ofZ {w = w32} (sfits-of (c .offset-at .ok)) ∙ c .offset-at .ensures)
 
 returns : tie.Need-returns Inv-loop μ-loop
 returns c = fill.done _ (c .before .loop .inv) (c .loop-test .left)
@@ -42,7 +42,7 @@ fill-offsets-spec =
     let b = c .before .before in
     let p = b .before .pre in
     let e = b .read-basis .ensures in
-    (omega arith, e, subst (λ (k : ℕ). k < 15) (sym (scale-is _ _ e)) (p .0 .0), p .0 .1 (b .before .args .first + c .before .loop .i) (omega arith)))
+    (omega arith, e, subst (λ (k : ℕ). k < scales) (sym (scale-is _ _ e)) (p .0)))
     (λ c. search needs)
     (λ c. search needs)
     (λ c. search needs)

@@ -1,4 +1,4 @@
--- `offsets::product` meets its contract: eleven bits signed times at most 2 ^ 14 fit. Assumes nothing.
+-- `offsets::product` meets its contract: eleven bits signed times at most 2 ^ 20 fit. Assumes nothing.
 use borrow.Author.Needs.{needs, sfits-of}
 use mathlib.Core.Path.{_≡_, ap, _∙_}
 use Prim.Native.Nat.{ℕ, _*_, _%_, _^_, _<_}
@@ -13,7 +13,7 @@ use mir.ValLaws.{toZ-pos}
 use Rattle.util.specs.Fields.{signed}
 use Rattle.util.proofs.Shift.{one-shifted}
 use Rattle.util.proofs.Width.{stands, signed-back}
-use Rattle.offsets.specs.Offsets.{productOf}
+use Rattle.offsets.specs.Offsets.{scales, productOf}
 use Rattle.util.proofs.Range.{back32}
 use Rattle.offsets.proofs.Range.{product-mag}
 use Rattle.offsets.proofs.product.Statement.{statement}
@@ -22,7 +22,7 @@ use Rattle.offsets.proofs.product.Tie as tie
 small : (n : ℕ) → mag (signed 11 n) < 1024
 small n = stands 11 (lit≤ tt) .range n
 
-power : (k : ℕ) → k < 15 → toZ w32 (1 * 2 ^ k % 4294967296) ≡ pos (2 ^ k)
+power : (k : ℕ) → k < scales → toZ w32 (1 * 2 ^ k % 4294967296) ≡ pos (2 ^ k)
 power k h = ap (toZ w32) (one-shifted 32 k (omega arith)) ∙ toZ-pos w32 (2 ^ k) (pow-lt {i = k} {j = 31} (omega arith))
 
 raw-is : (c : tie.After-i16-from-bits) → toZ w16 (ofZ w16 (c .i16-from-bits .result)) ≡ signed 11 (c .before .before .args .raw)
@@ -33,7 +33,7 @@ raw-is c =
 cast-result : tie.Need-cast-result
 cast-result c = rw (raw-is c) (sfits-of (omega (arith, small (c .before .before .args .raw))))
 
-product : (raw scale : ℕ) → scale < 15 → mag (signed 11 raw *ℤ pos (2 ^ scale)) < 2147483648
+product : (raw scale : ℕ) → scale < scales → mag (signed 11 raw *ℤ pos (2 ^ scale)) < 2147483648
 unfolding productOf
 product raw scale h = omega (arith, product-mag raw scale h)
 

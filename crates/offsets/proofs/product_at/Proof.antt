@@ -16,7 +16,7 @@ returns c =
     let s = c .before .before .before in
     let e : toZ w32 (ofZ w32 (c .product .result)) ≡ c .product .result = toZ-ofZ {w = w32} (record { sfits = c .product .ok }) in (
       e ∙ c .product .ensures ∙ product-at _ _ (s .pre .1) _ _ (c .before .before .entry-word .ensures .0),
-      subst (λ (z : ℤ). mag z ≤ 16777216) (sym (e ∙ c .product .ensures)) (product-mag _ _ (s .pre .2)),
+      subst (λ (z : ℤ). mag z ≤ 1073741824) (sym (e ∙ c .product .ensures)) (product-mag _ _ (s .pre .2)),
     )
 
 pub product-at-spec : {M : Type 1} → statement M

@@ -14,7 +14,7 @@ add-result : tie.Need-add-result
 add-result c =
     let a = c .args .average in
     rw (toZ-ofZ (c .fits .average), back32 a (omega (arith, c .fits .average .sfits)), toZ-ofZ (c .fits .part))
-    (sfits-of (omega (arith, sum-mag 32767 16777216 33554432 a (c .args .part) (omega arith) (omega (arith, c .fits .average .sfits)) (c .pre))))
+    (sfits-of (omega (arith, sum-mag 32767 1073741824 1073774592 a (c .args .part) (omega arith) (omega (arith, c .fits .average .sfits)) (c .pre))))
 
 returns : tie.Need-returns
 returns c =
@@ -23,7 +23,7 @@ returns c =
       toZ-ofZ (c .fits .average),
       back32 a (omega (arith, c .fits .average .sfits)),
       toZ-ofZ (c .fits .part),
-      back32 (a +ℤ c .args .part) (omega (arith, sum-mag 32767 16777216 33554432 a (c .args .part) (omega arith) (omega (arith, c .fits .average .sfits)) (c .pre))),
+      back32 (a +ℤ c .args .part) (omega (arith, sum-mag 32767 1073741824 1073774592 a (c .args .part) (omega arith) (omega (arith, c .fits .average .sfits)) (c .pre))),
     )
 
 pub sum-spec : {M : Type 1} → statement M

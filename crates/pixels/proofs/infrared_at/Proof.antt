@@ -2,7 +2,7 @@
 use borrow.Author.Needs.{needs, sfits-of}
 use mathlib.Core.Path.{refl}
 use mir.Facts.{toZ-ofZ}
-use mir.Syntax.{w16}
+use mir.Syntax.{w32}
 use Rattle.pixels.specs.Inner.{rawAt}
 use Rattle.pixels.proofs.infrared_at.Statement.{statement}
 use Rattle.pixels.proofs.infrared_at.Tie as tie
@@ -15,7 +15,7 @@ returns c =
       c .before .per-pixel-v-ir .ensures,
       c .before .before .before .before .real .ensures,
       c .before .before .before .before .before .before .reading-at .ensures,
-      toZ-ofZ {w = w16} (sfits-of (c .before .before .before .before .before .real-arg .given)),
+      toZ-ofZ {w = w32} (sfits-of (c .before .before .before .before .before .real-arg .given)),
     ) refl
 
 pub infrared-at-spec : {M : Type 1} → statement M
