@@ -2,7 +2,7 @@
 use Prim.Native.Nat.{ℕ}
 use Rattle.refusal.specs.declared.Told.{Told}
 use Rattle.refusal.specs.declared.Refusal.{Refusal}
-use Rattle.refusal.specs.declared.Refusal.the-variants.{ShortImage, ShortTable, DamagedWord, LargeScale, BasicRange, SupplyRange, ZeroDivisor, DataTooLarge, PixelNumber}
+use Rattle.refusal.specs.declared.Refusal.the-variants.{ShortImage, ListLength, ShortTable, DamagedWord, LargeScale, BasicRange, SupplyRange, ZeroDivisor, DataTooLarge, ListedDataTooLarge, PixelNumber}
 use Rattle.refusal.specs.declared.Verdict.{Verdict}
 use Rattle.refusal.specs.declared.Verdict.the-variants.{Pass, Refused}
 
@@ -11,6 +11,7 @@ says number place value = record { number = number; place = place; value = value
 
 abbrev pub toldOf : Refusal → Told
 toldOf (ShortImage length) = says 1 length 0
+toldOf (ListLength length) = says 1 length 0
 toldOf ShortTable = says 2 0 0
 toldOf (DamagedWord word bits) = says 3 word bits
 toldOf (LargeScale scale) = says 4 scale 0
@@ -18,6 +19,7 @@ toldOf (BasicRange range) = says 6 range 0
 toldOf SupplyRange = says 7 0 0
 toldOf ZeroDivisor = says 8 0 0
 toldOf (DataTooLarge given) = says 9 given 0
+toldOf (ListedDataTooLarge index given) = says 9 index given
 toldOf (PixelNumber pixel) = says 14 pixel 0
 
 -- of a verdict: 0, 0, 0 where nothing is refused

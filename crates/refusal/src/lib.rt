@@ -5,7 +5,9 @@ ghost use Rattle.refusal.specs.Refusal.{says, toldOf, verdictTold, unles
 pub enum Refusal {
     // 1: the image is shorter than a card.
     ShortImage { length: usize },
-    // 2: a table has fewer than 192 entries.
+    // 1: a list has another length than the card has such words.
+    ListLength { length: usize },
+    // 2: what is lent to be filled is too short; a table of pixels below 192 entries.
     ShortTable,
     // 3: a checked word is neither a codeword nor one flip away from one.
     DamagedWord { word: usize, bits: u16 },
@@ -19,6 +21,8 @@ pub enum Refusal {
     ZeroDivisor,
     // 9: the data do not fit a chip word.
     DataTooLarge { data: u16 },
+    // 9: nor do those of a list, at this index.
+    ListedDataTooLarge { index: usize, data: u16 },
     // 14: the bigger camera has no such pixel.
     PixelNumber { pixel: usize },
 }
@@ -46,6 +50,7 @@ impl Refusal {
     {
         match self {
             Refusal::ShortImage { length } => said(1, length as u64, 0),
+            Refusal::ListLength { length } => said(1, length as u64, 0),
             Refusal::ShortTable => said(2, 0, 0),
             Refusal::DamagedWord { word, bits } => said(3, word as u64, bits as u64),
             Refusal::LargeScale { scale } => said(4, scale as u64, 0),
@@ -53,6 +58,7 @@ impl Refusal {
             Refusal::SupplyRange => said(7, 0, 0),
             Refusal::ZeroDivisor => said(8, 0, 0),
             Refusal::DataTooLarge { data } => said(9, data as u64, 0),
+            Refusal::ListedDataTooLarge { index, data } => said(9, index as u64, data as u64),
             Refusal::PixelNumber { pixel } => said(14, pixel as u64, 0),
         }
     }
