@@ -7,11 +7,10 @@ use native.Mathlib.Nat.{lt-of-not-le, le-refl, add-zero, add-suc}
 use native.Mathlib.Numerals.{add-one}
 use native.Mathlib.Omega.{arith}
 use lib.Dec.{eqb}
-use borrow.Author.Tests.{eq-eqb, ne-eqb, eqb-true}
+use borrow.Author.Tests.{eq-eqb, ne-eqb}
 use Rattle.lists.specs.Pick.{pick}
-use Rattle.lists.specs.First.{firstFrom, First}
 use Rattle.lists.specs.Count.{countBelow}
-use Rattle.lists.proofs.First.{is-first, first-is}
+use Rattle.lists.proofs.First.{first-is}
 use Rattle.lists.proofs.Count.{count-not}
 use Rattle.map.specs.Map.{cardWords, checkedWords, checked}
 use Rattle.map.proofs.Counted.{checked-count}

@@ -1,4 +1,5 @@
--- Opened and Kept lead to the code; Index has the laws that callers cite.
-pub mod Opened
+-- Kept leads to the code; Index, Opened and Single have the laws that callers cite.
 mod Kept
 pub mod Index
+pub mod Opened
+pub mod Single

@@ -1,9 +1,9 @@
--- What a gate that lets pass has found out. Assumes nothing.
+-- What a gate that lets pass has found out, and what it lets pass. Assumes nothing.
 use Prim.Native.Nat.{ℕ, _≤_}
 use mathlib.Core.Path.{_≡_, refl}
 use mathlib.Core.Bool.{Bool, true, false, _||_, true≢false}
 use mathlib.Core.List.{List}
-use borrow.Author.Tests.{ltb-false}
+use borrow.Author.Tests.{ltb-false, le-ltb}
 use lib.ListN.{length}
 use Rattle.refusal.specs.declared.Verdict.the-variants.{Pass}
 use Rattle.refusal.specs.Order.{firstOf}
@@ -37,3 +37,9 @@ opened image first second e =
       second-long = ltb-false _ _ (b .1);
       none = ltb-false _ _ (r .0);
     }
+
+-- and such are not refused
+pub closed : (image : List ℕ) (first second : ℕ) → Sound image first second → firstOf (readTests image first second) ≡ Pass
+unfolding readTests firstOf
+closed image first second s =
+    simp (le-ltb _ _ (s .image-long), le-ltb _ _ (s .first-long), le-ltb _ _ (s .second-long), le-ltb _ _ (s .none))

@@ -1,11 +1,11 @@
 -- Words as bytes: the step of a loop that puts them, and each word read off them again. Assumes nothing.
 use Prim.Native.Nat.{ℕ, _+_, _*_, _/_, _%_, _≤_, _<_}
-use mathlib.Core.Path.{_≡_, refl, sym, ap, ap₂, _∙_, subst}
-use mathlib.Core.Bool.{Bool, true}
+use mathlib.Core.Path.{_≡_, sym, ap, ap₂, _∙_, subst}
+use mathlib.Core.Bool.{true}
 use mathlib.Core.List.{List}
 use native.Mathlib.Omega.{arith}
 use lib.Dec.{eqb}
-use lib.ListN.{length, set, getD}
+use lib.ListN.{length, set}
 use Rattle.lists.specs.Pick.{pick}
 use Rattle.lists.specs.Written.{filled}
 use Rattle.lists.proofs.Written.{written-at}

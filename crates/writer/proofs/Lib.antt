@@ -1,4 +1,7 @@
--- Codes, Opened and Bytes lead to the code.
+-- Codes, Opened and Bytes lead to the code; Round and Loads have the round trips, and Single that there is one answer.
 mod Codes
-pub mod Opened
-pub mod Bytes
+mod Opened
+mod Bytes
+pub mod Round
+pub mod Loads
+pub mod Single

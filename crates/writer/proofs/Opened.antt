@@ -1,12 +1,14 @@
--- What a gate that lets pass has found out. Assumes nothing.
+-- What a gate that lets pass has found out, and what it lets pass. Assumes nothing.
 use Prim.Native.Nat.{ℕ, _≤_}
 use mathlib.Core.Path.{_≡_}
-use borrow.Author.Tests.{ltb-false, eqb-true, leb-false, not-false}
+use mathlib.Core.Bool.{Bool}
+use borrow.Author.Tests.{ltb-false, eqb-true, leb-false, not-false, le-ltb, lt-leb, eq-eqb}
+use native.Mathlib.Nat.{le-of-eq}
 use native.Mathlib.Omega.{arith}
 use lib.Dec.{leb}
 use lib.ListN.{getD}
 use Rattle.lists.specs.First.{firstFrom}
-use Rattle.lists.proofs.First.{is-first}
+use Rattle.lists.proofs.First.{is-first, first-is}
 use Rattle.refusal.specs.declared.Verdict.the-variants.{Pass}
 use Rattle.refusal.specs.Order.{firstOf}
 use Rattle.refusal.proofs.Order.{passed}
@@ -33,3 +35,17 @@ opened from image e =
       },
       ltb-false _ _ (r .0),
     )
+
+-- and such are not refused
+pub closed : (from : Lists) (image : ℕ) → Fit from → imageBytes ≤ image → firstOf (writeTests from image) ≡ Pass
+unfolding writeTests firstOf firstLarge
+closed from image f h =
+    let p : ℕ → Bool = λ index. leb dataValues (getD (from .checked) index 0) in
+    let e : checkedWords ≡ firstFrom p 0 checkedWords =
+    first-is p 0 checkedWords checkedWords (record {
+      from = omega arith;
+      within = omega arith;
+      before = λ k a b. lt-leb _ _ (f .small k b);
+      at = λ l. absurd (let q : ⊥ = omega arith in q);
+    }) in
+    simp (eq-eqb _ _ (f .checked), eq-eqb _ _ (f .unchecked), le-ltb _ _ h, le-ltb _ _ (le-of-eq e))
