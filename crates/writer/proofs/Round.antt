@@ -218,6 +218,10 @@ module _ (image : List ℕ) (y : Bytes image) where
 
 -- ---- the round trips
 
+-- what was not refused is new
+new-if : {A : Type 0} {r : Verdict} (new old : A) {x : A} → r ≡ Pass → x ≡ unless r new old → x ≡ new
+new-if new old e p = p ∙ ap (λ (v : Verdict). unless v new old) e
+
 -- reading what was written gives the lists back
 module _ {from b a : Lists} {before after : List ℕ} {r : Verdict} (w : Writes from before after Pass) (i : checkedWords ≤ length (b .checked))
     (j : uncheckedWords ≤ length (b .unchecked)) (d : Reads after b a r) where
@@ -245,7 +249,7 @@ module _ {from b a : Lists} {before after : List ℕ} {r : Verdict} (w : Writes 
   pub read-back : (r ≡ Pass) × (firsts a ≡ from)
   read-back = (
     read-passes,
-    ap firsts (d .lent ∙ ap (λ (v : Verdict). unless v (listsOf after b) b) read-passes)
+    ap firsts (new-if _ _ read-passes (d .lent))
         ∙ (let g = got-fits after b sound in
         same-lists after (firsts (listsOf after b)) from (got-holds after b sound) holds (g .checked) (fits .0 .checked) (g .unchecked) (fits .0 .unchecked)),
   )
@@ -266,7 +270,7 @@ module _ {image before after : List ℕ} {b a : Lists} {r : Verdict} (d : Reads 
   write-passes = w .verdict ∙ writing.closed (firsts a) (length before) fit l
 
   image-is : after ≡ imageFrom (firsts a) before
-  image-is = w .image ∙ ap (λ (v : Verdict). unless v (imageFrom (firsts a) before) before) write-passes
+  image-is = new-if _ _ write-passes (w .image)
 
   pub back-clean : Clean after
   back-clean = subst Clean (sym image-is) (written-clean (firsts a) before fit l)

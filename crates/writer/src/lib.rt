@@ -116,10 +116,8 @@ fn write_gate(image: usize, data: &[u16], others: &[u16]) -> Verdict
     }
     let index = first_large(data);
     if index < CHECKED_WORDS {
-        return Verdict::Refused(Refusal::ListedDataTooLarge {
-            index,
-            data: data[index],
-        });
+        let data = data[index];
+        return Verdict::Refused(Refusal::ListedDataTooLarge { index, data });
     }
     Verdict::Pass
 }
