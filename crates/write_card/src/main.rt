@@ -1,0 +1,144 @@
+// Writes a card from text: 832 lines, that of word 0 first. A line begins with a number, decimal or 0x and hexadecimal: of a checked word
+// its data, of any other the word. The image goes to standard output. A line that is no word, or one more than 832, is told as `line`
+// and its number from 1 on; any other refusal as `write` with number, place and value. Both go to standard error, and no byte to standard
+// output. The text has fewer than 65,536 bytes; one that is longer is told by the line that is cut.
+mod text;
+
+ghost use Prim.Native.Nat.{_≤_};
+use libc::STDERR_FILENO;
+use libc::STDIN_FILENO;
+use libc::STDOUT_FILENO;
+use listing::CHECKED_WORDS;
+use listing::UNCHECKED_WORDS;
+use map::IMAGE_BYTES;
+use map::WORDS;
+use refusal::Told;
+use refusal::Verdict;
+
+fn tab_number(n: u64) {
+    io::write_all(STDERR_FILENO, b"\t");
+    io::print_decimal(STDERR_FILENO, n);
+}
+
+fn line_line(line: u64) {
+    io::write_all(STDERR_FILENO, b"line");
+    tab_number(line);
+    io::write_all(STDERR_FILENO, b"\n");
+}
+
+fn write_line(told: Told) {
+    io::write_all(STDERR_FILENO, b"write");
+    tab_number(told.number);
+    tab_number(told.place);
+    tab_number(told.value);
+    io::write_all(STDERR_FILENO, b"\n");
+}
+
+// How far the lists are filled.
+struct Filled {
+    data: usize,
+    others: usize,
+}
+
+// A word to the end of its list, while that has room.
+fn put(filled: Filled, checked: bool, word: u16, data: &mut [u16], others: &mut [u16]) -> Filled {
+    let index = filled.data;
+    let other = filled.others;
+    if checked {
+        if index < data.len() {
+            data[index] = word;
+            return Filled {
+                data: index + 1,
+                others: other,
+            };
+        }
+    } else {
+        if other < others.len() {
+            others[other] = word;
+            return Filled {
+                data: index,
+                others: other + 1,
+            };
+        }
+    }
+    filled
+}
+
+// How many lines were read, whether all of them are words, and how far the lists are filled.
+struct Lines {
+    count: usize,
+    good: bool,
+    filled: Filled,
+}
+
+fn read_lines(text: &[u8], data: &mut [u16], others: &mut [u16]) -> Lines
+    ensures { λ r. ⌜ r .count ≤ 832 ⌝ }
+{
+    let mut start: usize = 0;
+    let mut count: usize = 0;
+    let mut filled = Filled { data: 0, others: 0 };
+    while start < text.len() {
+        if count == WORDS {
+            return Lines {
+                count,
+                good: false,
+                filled,
+            };
+        }
+        let end = text::line_end(text, start);
+        let word = text::word_of(&text[start..end]);
+        if text::NO_WORD <= word {
+            return Lines {
+                count,
+                good: false,
+                filled,
+            };
+        }
+        filled = put(filled, map::is_checked(count), word as u16, data, others);
+        count += 1;
+        if end == text.len() {
+            break;
+        }
+        start = end + 1;
+    }
+    Lines {
+        count,
+        good: true,
+        filled,
+    }
+}
+
+// The first `count` of a list, or all of it.
+fn firsts(list: &[u16], count: usize) -> &[u16] {
+    if count <= list.len() {
+        &list[0..count]
+    } else {
+        list
+    }
+}
+
+// The card of two lists, or what is refused.
+fn write_lists(data: &[u16], others: &[u16]) {
+    let mut image = [0u8; IMAGE_BYTES];
+    let verdict = writer::write(data, others, &mut image);
+    let Verdict::Pass = verdict else {
+        write_line(verdict.told());
+        return;
+    };
+    io::write_all(STDOUT_FILENO, &image);
+}
+
+fn main() {
+    let mut buffer = io::large_buffer();
+    let n = io::read_full(STDIN_FILENO, &mut buffer);
+    let mut data = [0u16; CHECKED_WORDS];
+    let mut others = [0u16; UNCHECKED_WORDS];
+    let lines = read_lines(&buffer[..n], &mut data, &mut others);
+    let count = lines.count;
+    let filled = lines.filled;
+    if n == buffer.len() || !lines.good {
+        line_line(count as u64 + 1);
+    } else {
+        write_lists(firsts(&data, filled.data), firsts(&others, filled.others));
+    }
+}
