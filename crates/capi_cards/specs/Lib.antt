@@ -1,0 +1,2 @@
+-- The answers as C has them.
+pub mod Border
