@@ -7,10 +7,13 @@ ghost use Rattle.hamming.specs.Answer.{encodeAnswer, checkAnswer};
 ghost use Rattle.eeprom.specs.Parts.{rowOf, offsetsOf};
 ghost use Rattle.capi.specs.Border.{goodWord, refusedWord, encodedOut, checkedOut, subpageOf, gradientOut, recordOut, rowPlace, offsetsPlace, Loading, gradientIn, recordIn, ramIn, supplyIn, reflectedIn, frameOut, Carried};
 ghost use Rattle.eeprom.specs.Load.{tables};
+ghost use Rattle.listing.specs.Index.{lists};
+ghost use Rattle.capi_cards.specs.Border.{Writing, Reading};
 ghost use Rattle.calculations.specs.Frames.{irCall, toCall, passCall, ownReading, Infrareds, Temperatures, Passes};
 use calculations::Frame;
 use calibration::Calibration;
 use calibration::Gradient;
+use capi_cards::Outcome;
 use eeprom::Subpage;
 use formulas::RamData;
 use formulas::Reflected;
@@ -237,6 +240,28 @@ pub extern "C" fn loamchalice_load(
         last_mended: mending.last,
         calibration,
     }
+}
+
+// Writes a card from the data of its 814 checked words and its 18 unchecked words. Refusals 1, 2, 9; after one the image is as before.
+// Bytes past 1,664 stay.
+#[no_mangle]
+pub extern "C" fn loamchalice_write(data: &[u16], others: &[u16], image: &mut [u8]) -> Outcome
+    ensures { λ r. ⌜ Writing (lists (now («data» .entry)) (now (others .entry))) (now (image .entry)) (now (image .exit)) r ⌝ }
+{
+    capi_cards::write(data, others, image)
+}
+
+// Reads the data of a card's 814 checked words and its 18 unchecked words. Refusals 1, 2, 3; after one the lists are as before. Entries
+// past 814 and 18 stay.
+#[no_mangle]
+pub extern "C" fn loamchalice_read_words(
+    image: &[u8],
+    data: &mut [u16],
+    others: &mut [u16],
+) -> Outcome
+    ensures { λ r. ⌜ Reading (now (image .entry)) (lists (now («data» .entry)) (now (others .entry))) (lists (now («data» .exit)) (now (others .exit))) r ⌝ }
+{
+    capi_cards::read_words(image, data, others)
 }
 
 // Where the 64 bytes of a row of alpha stand in the image; 0 and 0 for a row above 5 or an image below 1,664 bytes.

@@ -1,4 +1,4 @@
-// The calls for C and Rust that write a card and read its words: each hands its arguments on and promises what the inner call does.
+// Writing a card and reading its words, with answers as C has them: what the calls of capi hand on.
 ghost use Rattle.listing.specs.Index.{lists};
 ghost use Rattle.capi_cards.specs.Border.{Writing, Reading};
 
@@ -12,8 +12,7 @@ pub struct Outcome {
 
 // Writes a card from the data of its 814 checked words and its 18 unchecked words. Refusals 1, 2, 9; after one the image is as before.
 // Bytes past 1,664 stay.
-#[no_mangle]
-pub extern "C" fn loamchalice_write(data: &[u16], others: &[u16], image: &mut [u8]) -> Outcome
+pub fn write(data: &[u16], others: &[u16], image: &mut [u8]) -> Outcome
     ensures { λ r. ⌜ Writing (lists (now («data» .entry)) (now (others .entry))) (now (image .entry)) (now (image .exit)) r ⌝ }
 {
     let verdict = writer::write(data, others, image);
@@ -27,12 +26,7 @@ pub extern "C" fn loamchalice_write(data: &[u16], others: &[u16], image: &mut [u
 
 // Reads the data of a card's 814 checked words and its 18 unchecked words. Refusals 1, 2, 3; after one the lists are as before. Entries
 // past 814 and 18 stay.
-#[no_mangle]
-pub extern "C" fn loamchalice_read_words(
-    image: &[u8],
-    data: &mut [u16],
-    others: &mut [u16],
-) -> Outcome
+pub fn read_words(image: &[u8], data: &mut [u16], others: &mut [u16]) -> Outcome
     ensures { λ r. ⌜ Reading (now (image .entry)) (lists (now («data» .entry)) (now (others .entry))) (lists (now («data» .exit)) (now (others .exit))) r ⌝ }
 {
     let verdict = listing::read_words(image, data, others);

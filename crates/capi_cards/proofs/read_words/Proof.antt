@@ -1,14 +1,14 @@
--- `capi_cards::loamchalice_read_words` meets its contract: the inner call's promise, and its answer as C has it. Assumes nothing.
+-- `capi_cards::read_words` meets its contract: the inner call's promise, and its answer as C has it. Assumes nothing.
 use borrow.Author.Needs.{needs}
 use mathlib.Core.Path.{refl}
-use Rattle.capi_cards.proofs.loamchalice_read_words.Statement.{statement}
-use Rattle.capi_cards.proofs.loamchalice_read_words.Tie as tie
+use Rattle.capi_cards.proofs.read_words.Statement.{statement}
+use Rattle.capi_cards.proofs.read_words.Tie as tie
 
 returns : tie.Need-returns
 returns c =
     let w = c .before .before .before .before .before .read-words in
     record { inner = w .result; reads = w .ensures; out = rw (c .told .ensures) refl }
 
-pub loamchalice-read-words-spec : {M : Type 1} → statement M
-loamchalice-read-words-spec =
+pub read-words-spec : {M : Type 1} → statement M
+read-words-spec =
     tie.close (tie.spec (λ c κs. search needs) (λ c κs. search needs) (λ c. search needs) (λ c. search needs) returns)
