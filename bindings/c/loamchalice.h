@@ -6,13 +6,16 @@
  *
  * Each answer has `number`, `place` and `value`: all 0, or the refusal that stopped the call before it wrote anything.
  *   1  the image is below 1,664 bytes                        place: its length
+ *      a list to write has another length than 814, or 18    place: its length
  *   2  a table that the call takes has fewer than 192 entries
+ *      what is lent for a card or its words is too short
  *   3  a chip word is damaged                                place: the word's number, value: its bits
  *   4  the offset scale is 21 or more                        place: the scale
  *   6  the basic range is above 7                            place: the range
  *   7  v_dd_pixel - V_DD25 is outside 16 bits
  *   8  a divisor is zero, or the emissivity is zero or not a number
  *   9  data to encode is above 2047                          place: the data
+ *      an entry of a list to write is above 2047             place: its index, value: the data
  *  14  the MLX90640 has no such pixel: 768 or more           place: the pixel
  *
  * Pixels are floats lent as their bits, uint32_t: the same size and alignment as float. Every not-a-number that a call writes is 0x7FC00000. */
@@ -28,6 +31,8 @@ extern "C" {
 
 #define LOAMCHALICE_IMAGE_BYTES 1664
 #define LOAMCHALICE_WORDS 832
+#define LOAMCHALICE_CHECKED_WORDS 814
+#define LOAMCHALICE_UNCHECKED_WORDS 18
 #define LOAMCHALICE_PIXELS 192
 #define LOAMCHALICE_NOT_A_NUMBER 0x7FC00000u
 
@@ -69,6 +74,10 @@ typedef struct {
     uint32_t t_a; /* the bits of the ambient temperature; 0 after a refusal */
 } loamchalice_answer;
 
+typedef struct {
+    uint64_t number, place, value;
+} loamchalice_outcome;
+
 /* The chip word of 11 bits of data. Refusal 9. */
 loamchalice_word loamchalice_encode(uint16_t data);
 
@@ -83,6 +92,15 @@ loamchalice_loaded loamchalice_load(
     const uint8_t *image, size_t image_length,
     int32_t *offsets0, size_t offsets0_length, int32_t *offsets1, size_t offsets1_length,
     float *alpha, size_t alpha_length, float *k_v, size_t k_v_length, float *k_ta, size_t k_ta_length);
+
+/* Writes a card to the first 1,664 bytes of an image; later bytes stay. In reading order, `data` has the 814 data of the checked words and
+ * `others` the 18 words that are not checked: 0 to 15, 19 and 20. Refusals 1, 2, 9. */
+loamchalice_outcome loamchalice_write(
+    const uint16_t *data, size_t data_length, const uint16_t *others, size_t others_length, uint8_t *image, size_t image_length);
+
+/* Reads a card into lists of 814 and 18 entries or more; later entries stay. Refusals 1, 2, 3. */
+loamchalice_outcome loamchalice_read_words(
+    const uint8_t *image, size_t image_length, uint16_t *data, size_t data_length, uint16_t *others, size_t others_length);
 
 /* Where the 64 bytes of a row of alpha, 0 to 5, stand in the image; 0 and 0 for a higher row or a short image. Refuses nothing. */
 loamchalice_part loamchalice_alpha_row(const uint8_t *image, size_t image_length, size_t row);

@@ -109,11 +109,19 @@ pub struct PixelEntry {
     pub entry: usize,
 }
 
+#[repr(C)]
+#[derive(Clone, Copy, Debug)]
+pub struct Outcome {
+    pub number: u64,
+    pub place: u64,
+    pub value: u64,
+}
+
 // What the archive hands over, on a processor of 64 bits.
 const _: () = {
     use std::mem::size_of;
     assert!(size_of::<Word>() == 32 && size_of::<Part>() == 16 && size_of::<Record>() == 100);
-    assert!(size_of::<Load>() == 144 && size_of::<Ram>() == 10 && size_of::<Answer>() == 40);
+    assert!(size_of::<Load>() == 144 && size_of::<Ram>() == 10 && size_of::<Answer>() == 40 && size_of::<Outcome>() == 24);
     assert!(size_of::<SixTen>() == 4 && size_of::<Unsigned>() == 4 && size_of::<Signed>() == 4);
     assert!(size_of::<AccessPattern>() == 36 && size_of::<PixelEntry>() == 32);
 };
@@ -123,6 +131,12 @@ extern "C" {
     fn loamchalice_root(x: f32) -> u32;
     fn loamchalice_encode(data: u16) -> Word;
     fn loamchalice_check(word: u16) -> Word;
+    fn loamchalice_write(
+        data: *const u16, data_length: usize, others: *const u16, others_length: usize, image: *mut u8, image_length: usize,
+    ) -> Outcome;
+    fn loamchalice_read_words(
+        image: *const u8, image_length: usize, data: *mut u16, data_length: usize, others: *mut u16, others_length: usize,
+    ) -> Outcome;
     fn loamchalice_alpha_row(image: *const u8, length: usize, row: usize) -> Part;
     fn loamchalice_subpage_offsets(zero: *const i32, zero_length: usize, one: *const i32, one_length: usize, subpage: u8) -> Part;
     fn loamchalice_load(
@@ -187,6 +201,14 @@ pub fn encode(data: u16) -> Word {
 
 pub fn check(word: u16) -> Word {
     unsafe { loamchalice_check(word) }
+}
+
+pub fn write(data: &[u16], others: &[u16], image: &mut [u8]) -> Outcome {
+    unsafe { loamchalice_write(data.as_ptr(), data.len(), others.as_ptr(), others.len(), image.as_mut_ptr(), image.len()) }
+}
+
+pub fn read_words(image: &[u8], data: &mut [u16], others: &mut [u16]) -> Outcome {
+    unsafe { loamchalice_read_words(image.as_ptr(), image.len(), data.as_mut_ptr(), data.len(), others.as_mut_ptr(), others.len()) }
 }
 
 pub fn alpha_row(image: &[u8], row: usize) -> Part {

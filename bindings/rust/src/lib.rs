@@ -1,4 +1,4 @@
-//! The MLX90641 heat camera: a card to a calibration, and frames to infrared numbers and temperatures, by Loamchalice, whose calls are
+//! The MLX90641 heat camera: a card to a calibration, or to its words and back, and frames to infrared numbers and temperatures, by Loamchalice, whose calls are
 //! proved against contracts. Names follow crate mlx9064x.
 //!
 //! ```
@@ -16,9 +16,11 @@
 //! # Ok::<(), loamchalice::Refusal>(())
 //! ```
 mod border;
+mod card;
 pub mod mlx90640;
 mod refusal;
 
+pub use card::Card;
 pub use refusal::Refusal;
 
 /// A mask that asks for every pixel.

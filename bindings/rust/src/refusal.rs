@@ -20,6 +20,8 @@ pub enum Refusal {
     ZeroDivisor,
     /// 9: data to encode is above 2047.
     DataTooLarge { data: u16 },
+    /// 9: an entry of a [`Card`](crate::Card)'s data is above 2047.
+    ListedDataTooLarge { index: usize, data: u16 },
     /// 14: the pixel number is 768 or more, which the MLX90640 does not have.
     PixelNumber { pixel: usize },
 }
@@ -37,7 +39,8 @@ impl Refusal {
             6 => Refusal::BasicRange { range: at },
             7 => Refusal::SupplyRange,
             8 => Refusal::ZeroDivisor,
-            9 => Refusal::DataTooLarge { data: place as u16 },
+            9 if value == 0 => Refusal::DataTooLarge { data: place as u16 },
+            9 => Refusal::ListedDataTooLarge { index: at, data: value as u16 },
             14 => Refusal::PixelNumber { pixel: at },
             _ => unreachable!("the library has no such refusal"),
         })
@@ -53,7 +56,7 @@ impl Refusal {
             Refusal::BasicRange { .. } => 6,
             Refusal::SupplyRange => 7,
             Refusal::ZeroDivisor => 8,
-            Refusal::DataTooLarge { .. } => 9,
+            Refusal::DataTooLarge { .. } | Refusal::ListedDataTooLarge { .. } => 9,
             Refusal::PixelNumber { .. } => 14,
         }
     }
@@ -66,15 +69,17 @@ impl Refusal {
             Refusal::OffsetScale { scale } => scale.into(),
             Refusal::BasicRange { range } => range as u64,
             Refusal::DataTooLarge { data } => data.into(),
+            Refusal::ListedDataTooLarge { index, .. } => index as u64,
             Refusal::PixelNumber { pixel } => pixel as u64,
             Refusal::ShortTable | Refusal::SupplyRange | Refusal::ZeroDivisor => 0,
         }
     }
 
-    /// The bits of a damaged word, else 0.
+    /// The bits of a damaged word or the data of an entry, else 0.
     pub fn value(self) -> u64 {
         match self {
             Refusal::DamagedWord { bits, .. } => bits.into(),
+            Refusal::ListedDataTooLarge { data, .. } => data.into(),
             _ => 0,
         }
     }
@@ -92,6 +97,7 @@ impl fmt::Display for Refusal {
             Refusal::SupplyRange => write!(f, "the supply reading is too far from its reference"),
             Refusal::ZeroDivisor => write!(f, "a divisor is zero, or the emissivity is zero or not a number"),
             Refusal::DataTooLarge { data } => write!(f, "{data} is above 2047"),
+            Refusal::ListedDataTooLarge { index, data } => write!(f, "entry {index} of the data is {data}, above 2047"),
             Refusal::PixelNumber { pixel } => write!(f, "there is no pixel {pixel}, only 0 to 767"),
         }
     }

@@ -1,5 +1,5 @@
 //! Readings of document 01 through the binding.
-use loamchalice::{Calibration, RamData, Refusal, Settings, Subpage, ALL_PIXELS};
+use loamchalice::{Calibration, Card, RamData, Refusal, Settings, Subpage, ALL_PIXELS};
 
 const SOUND: &[u8] = include_bytes!("../../../cards/sound.bin");
 const ROOM: RamData = RamData { t_a_v_be: 19442, t_a_ptat: 1711, v_dd_pixel: -13115, gain: 6391, compensation_pixel: -105 };
@@ -102,4 +102,34 @@ fn a_zero_that_is_negated_is_minus_zero() {
     let bits = |word| loamchalice::mlx90640::access_pattern_corrections(word).pattern.map(f32::to_bits);
     let (plus, minus) = (0f32.to_bits(), (-0f32).to_bits());
     assert_eq!(bits(0), [minus, plus, minus, plus, minus, plus]);
+}
+
+#[test]
+fn a_card_is_read_and_written() {
+    let sound = Card::words(SOUND).unwrap();
+    assert_eq!(sound.write().unwrap(), *SOUND);
+    let mended = Card::words(include_bytes!("../../../cards/mended.bin")).unwrap();
+    assert_eq!(mended, sound);
+    let damaged = Card::words(include_bytes!("../../../cards/damaged.bin"));
+    assert_eq!(damaged, Err(Refusal::DamagedWord { word: 100, bits: 516 }));
+    let lines = include_str!("../../../cards/sound.txt").lines();
+    let words: Vec<u16> = lines.map(|line| parsed(line.split('\t').next().unwrap())).collect();
+    assert_eq!(sound.unchecked, [&words[..16], &words[19..21]].concat()[..]);
+    assert_eq!(sound.data, [&words[16..19], &words[21..]].concat()[..]);
+}
+
+fn parsed(number: &str) -> u16 {
+    number.strip_prefix("0x").map_or_else(|| number.parse(), |digits| u16::from_str_radix(digits, 16)).unwrap()
+}
+
+#[test]
+fn a_changed_word_is_loaded() {
+    let mut card = Card::words(SOUND).unwrap();
+    card.data[0] = 21 << 5;
+    let refused = Calibration::from_data(&card.write().unwrap()).err();
+    assert_eq!(refused, Some(Refusal::OffsetScale { scale: 21 }));
+    card.data[813] = 2048;
+    let refused = card.write().unwrap_err();
+    assert_eq!((refused.number(), refused.place(), refused.value()), (9, 813, 2048));
+    assert_eq!(refused.to_string(), "refusal 9: entry 813 of the data is 2048, above 2047");
 }
