@@ -222,6 +222,14 @@ module _ (image : List ℕ) (y : Bytes image) where
 new-if : {A : Type 0} {r : Verdict} (new old : A) {x : A} → r ≡ Pass → x ≡ unless r new old → x ≡ new
 new-if new old e p = p ∙ ap (λ (v : Verdict). unless v new old) e
 
+-- a written card holds its lists, and is clean
+pub written-back : {from : Lists} {before after : List ℕ} → Writes from before after Pass → Holds from after × Clean after
+written-back {from} {before} w =
+    let f = writing.opened from (length before) (sym (w .verdict)) in (
+      subst (Holds from) (sym (w .image)) (written-holds from before (f .0) (f .1)),
+      subst Clean (sym (w .image)) (written-clean from before (f .0) (f .1)),
+    )
+
 -- reading what was written gives the lists back
 module _ {from b a : Lists} {before after : List ℕ} {r : Verdict} (w : Writes from before after Pass) (i : checkedWords ≤ length (b .checked))
     (j : uncheckedWords ≤ length (b .unchecked)) (d : Reads after b a r) where
@@ -229,7 +237,7 @@ module _ {from b a : Lists} {before after : List ℕ} {r : Verdict} (w : Writes 
   fits = writing.opened from (length before) (sym (w .verdict))
 
   holds : Holds from after
-  holds = subst (Holds from) (sym (w .image)) (written-holds from before (fits .0) (fits .1))
+  holds = written-back w .0
 
   long : length after ≡ length before
   unfolding imageFrom
