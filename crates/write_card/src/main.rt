@@ -1,7 +1,7 @@
 // Writes a card from text: 832 lines, that of word 0 first. A line begins with a number, decimal or 0x and hexadecimal: of a checked word
 // its data, of any other the word. The image goes to standard output. A line that is no word, or one more than 832, is told as `line`
 // and its number from 1 on; any other refusal as `write` with number, place and value. Both go to standard error, and no byte to standard
-// output. The text has fewer than 65,536 bytes; one that is longer is told by the line that is cut.
+// output. The text has fewer than 65,536 bytes; a longer one is told by the line at which that many end.
 mod text;
 
 ghost use Prim.Native.Nat.{_≤_};
@@ -136,8 +136,10 @@ fn main() {
     let lines = read_lines(&buffer[..n], &mut data, &mut others);
     let count = lines.count;
     let filled = lines.filled;
-    if n == buffer.len() || !lines.good {
+    if !lines.good {
         line_line(count as u64 + 1);
+    } else if n == buffer.len() {
+        line_line(count as u64);
     } else {
         write_lists(firsts(&data, filled.data), firsts(&others, filled.others));
     }
