@@ -85,8 +85,8 @@ fn read_lines(text: &[u8], data: &mut [u16], others: &mut [u16]) -> Lines
                 filled,
             };
         }
-        let end = text::line_end(text, start);
-        let word = text::word_of(&text[start..end]);
+        let line = text::line_at(text, start);
+        let word = line.word;
         if text::NO_WORD <= word {
             return Lines {
                 count,
@@ -96,10 +96,7 @@ fn read_lines(text: &[u8], data: &mut [u16], others: &mut [u16]) -> Lines
         }
         filled = put(filled, map::is_checked(count), word as u16, data, others);
         count += 1;
-        if end == text.len() {
-            break;
-        }
-        start = end + 1;
+        start = line.next;
     }
     Lines {
         count,
@@ -128,19 +125,24 @@ fn write_lists(data: &[u16], others: &[u16]) {
     io::write_all(STDOUT_FILENO, &image);
 }
 
-fn main() {
-    let mut buffer = io::large_buffer();
-    let n = io::read_full(STDIN_FILENO, &mut buffer);
+// The card of a text, which may have been cut.
+fn write_text(text: &[u8], cut: bool) {
     let mut data = [0u16; CHECKED_WORDS];
     let mut others = [0u16; UNCHECKED_WORDS];
-    let lines = read_lines(&buffer[..n], &mut data, &mut others);
+    let lines = read_lines(text, &mut data, &mut others);
     let count = lines.count;
     let filled = lines.filled;
     if !lines.good {
         line_line(count as u64 + 1);
-    } else if n == buffer.len() {
+    } else if cut {
         line_line(count as u64);
     } else {
         write_lists(firsts(&data, filled.data), firsts(&others, filled.others));
     }
+}
+
+fn main() {
+    let mut buffer = io::large_buffer();
+    let n = io::read_full(STDIN_FILENO, &mut buffer);
+    write_text(&buffer[..n], n == buffer.len());
 }

@@ -37,9 +37,7 @@ fn append(number: u32, digit: u32, base: u32) -> u32
 }
 
 // The word that the digits from `start` up to a blank or the end are in this base, 10 or 16.
-fn digits(line: &[u8], start: usize, base: u32) -> u32
-    ensures { λ r. ⌜ r ≤ 65536 ⌝ }
-{
+fn digits(line: &[u8], start: usize, base: u32) -> u32 {
     let mut at = start;
     let mut word: u32 = 0;
     while at < line.len() {
@@ -61,9 +59,7 @@ fn digits(line: &[u8], start: usize, base: u32) -> u32
 }
 
 // The word that a line begins with: decimal, or 0x and hexadecimal. What follows a blank is not read.
-pub fn word_of(line: &[u8]) -> u32
-    ensures { λ r. ⌜ r ≤ 65536 ⌝ }
-{
+fn word_of(line: &[u8]) -> u32 {
     if 2 <= line.len() {
         if line[0] == b'0' {
             if line[1] == b'x' {
@@ -75,7 +71,7 @@ pub fn word_of(line: &[u8]) -> u32
 }
 
 // Where the line that starts here ends: at its newline, or at the end of the text.
-pub fn line_end(text: &[u8], start: usize) -> usize
+fn line_end(text: &[u8], start: usize) -> usize
     requires { ⌜ start ≤ length (now text) ⌝ }
     ensures { λ r. ⌜ (start ≤ r) × (r ≤ length (now (text .entry))) ⌝ }
 {
@@ -87,4 +83,26 @@ pub fn line_end(text: &[u8], start: usize) -> usize
         at += 1;
     }
     at
+}
+
+// A line's word, and where the next line starts, or the end of the text.
+pub struct Line {
+    pub word: u32,
+    pub next: usize,
+}
+
+pub fn line_at(text: &[u8], start: usize) -> Line
+    requires { ⌜ start < length (now text) ⌝ }
+    ensures { λ r. ⌜ (start < r .next) × (r .next ≤ length (now (text .entry))) ⌝ }
+{
+    let end = line_end(text, start);
+    let word = word_of(&text[start..end]);
+    if end < text.len() {
+        Line {
+            word,
+            next: end + 1,
+        }
+    } else {
+        Line { word, next: end }
+    }
 }
