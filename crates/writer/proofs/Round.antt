@@ -33,6 +33,7 @@ use Rattle.writer.specs.Write.{wordFrom, byteOf, imageFrom, Writes}
 use Rattle.writer.specs.Round.{Holds, Clean, Bytes, firsts}
 use Rattle.writer.specs.Inner.{Fit}
 use Rattle.writer.proofs.Codes.{encoded-clean, clean-says}
+use Rattle.writer.proofs.From.{from-checked, from-unchecked}
 use Rattle.writer.proofs.Bytes.{high, low, word-there}
 use Rattle.writer.proofs.Opened as writing
 
@@ -60,12 +61,10 @@ module _ (from : Lists) (before : List ℕ) (f : Fit from) (l : imageBytes ≤ l
   at-word word h = word-there (wordFrom from) before l word h
 
   at-checked : (word : ℕ) → word < cardWords → checked word ≡ true → wordAt written word ≡ encoded (datum word)
-  unfolding wordFrom
-  at-checked word h e = at-word word h ∙ ap (λ (b : Bool). pick b (encoded (datum word)) (getD (from .unchecked) (listIndex unchecked word) 0)) e
+  at-checked word h e = at-word word h ∙ from-checked from word e
 
   at-unchecked : (word : ℕ) → word < cardWords → checked word ≡ false → wordAt written word ≡ getD (from .unchecked) (listIndex unchecked word) 0
-  unfolding wordFrom
-  at-unchecked word h e = at-word word h ∙ ap (λ (b : Bool). pick b (encoded (datum word)) (getD (from .unchecked) (listIndex unchecked word) 0)) e
+  at-unchecked word h e = at-word word h ∙ from-unchecked from word e
 
   small : (word : ℕ) → word < cardWords → checked word ≡ true → datum word < dataValues
   small word h e = f .small (listIndex checked word) (checked-lt word h e)
@@ -115,13 +114,11 @@ module _ (image : List ℕ) (from : Lists) (o : Holds from image) where
   datum-is word h e = data-is image word _ (o .said word h e)
 
   -- a clean one is what would be written
-  clean-word : Clean image → (word : ℕ) → word < cardWords → (b : Bool) → checked word ≡ b
-      → pick b (encoded (getD (from .checked) (listIndex checked word) 0)) (getD (from .unchecked) (listIndex unchecked word) 0) ≡ wordAt image word
-  clean-word c word h true e = sym (clean-says _ _ (c word h e) (sym (read-checked image word e) ∙ o .said word h e))
-  clean-word c word h false e = sym (o .stands word h e)
+  clean-word : Clean image → (word : ℕ) → word < cardWords → (b : Bool) → checked word ≡ b → wordFrom from word ≡ wordAt image word
+  clean-word c word h true e = from-checked from word e ∙ sym (clean-says _ _ (c word h e) (sym (read-checked image word e) ∙ o .said word h e))
+  clean-word c word h false e = from-unchecked from word e ∙ sym (o .stands word h e)
 
   pub word-is : Clean image → (word : ℕ) → word < cardWords → wordFrom from word ≡ wordAt image word
-  unfolding wordFrom
   word-is c word h = clean-word c word h (checked word) refl
 
 -- two that hold the same lists have the same data

@@ -1,16 +1,14 @@
 -- `writer::word_from` meets its contract: the word's index lies in its list. Assumes nothing.
 use borrow.Author.Needs.{needs}
 use mathlib.Core.Path.{_≡_, sym, ap, _∙_}
-use mathlib.Core.Bool.{Bool, true, false}
-use mathlib.Core.List.{List}
+use mathlib.Core.Bool.{true, false}
 use Prim.Native.Nat.{ℕ, _-_, _<_}
 use native.Mathlib.Omega.{arith}
 use lib.ListN.{getD}
-use Rattle.lists.specs.Pick.{pick}
 use Rattle.hamming.specs.Word.{encoded}
 use Rattle.map.specs.Map.{checkedWords, checked}
-use Rattle.listing.specs.Index.{lists, unchecked, uncheckedWords, listIndex}
-use Rattle.writer.specs.Write.{wordFrom}
+use Rattle.listing.specs.Index.{lists, uncheckedWords}
+use Rattle.writer.proofs.From.{from-checked, from-unchecked}
 use Rattle.listing.proofs.Index.{counted-lt, other-index, in-first, in-second}
 use Rattle.writer.proofs.word_from.Statement.{statement}
 use Rattle.writer.proofs.word_from.Tie as tie
@@ -25,12 +23,6 @@ module _ (s : tie.Start) where
   second : checked word ≡ false → word - s .args .before < uncheckedWords
   second e = in-second word (s .args .before) (s .pre .1 .1) (s .pre .1 .0) e
 
-by-test : (list others : List ℕ) (word : ℕ) (b : Bool) → checked word ≡ b
-    → pick b (encoded (getD list (listIndex checked word) 0)) (getD others (listIndex unchecked word) 0) ≡ wordFrom (lists list others) word
-unfolding wordFrom
-by-test list others word b e =
-    ap (λ (t : Bool). pick t (encoded (getD list (listIndex checked word) 0)) (getD others (listIndex unchecked word) 0)) (sym e)
-
 is-first : (c : tie.Then1) → checked (word (c .before .before .before .before)) ≡ true
 is-first c = sym (c .before .is-checked .ensures) ∙ c .if1 .taken
 
@@ -43,12 +35,14 @@ codeword-requires c κs = let s = c .before .before .before .before .before in s
 returns : tie.Need-returns
 returns c =
     let s = c .before .before .before .before .before .before in
-    c .codeword .ensures ∙ ap (λ (i : ℕ). encoded (getD (s .args .«data» .now) i 0)) (s .pre .1 .1) ∙ by-test _ _ (word s) true (is-first (c .before .before))
+    c .codeword .ensures ∙ ap (λ (i : ℕ). encoded (getD (s .args .«data» .now) i 0)) (s .pre .1 .1)
+    ∙ sym (from-checked (lists (s .args .«data» .now) (s .args .others .now)) (word s) (is-first (c .before .before)))
 
 returns-2 : tie.Need-returns-2
 returns-2 c =
     let s = c .before .before .before .before .before in
-    ap (λ (i : ℕ). getD (s .args .others .now) i 0) (other-index (word s) (s .args .before) (s .pre .1 .1)) ∙ by-test _ _ (word s) false (is-second (c .before))
+    ap (λ (i : ℕ). getD (s .args .others .now) i 0) (other-index (word s) (s .args .before) (s .pre .1 .1))
+    ∙ sym (from-unchecked (lists (s .args .«data» .now) (s .args .others .now)) (word s) (is-second (c .before)))
 
 pub word-from-spec : {M : Type 1} → statement M
 word-from-spec =
