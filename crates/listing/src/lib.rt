@@ -79,7 +79,8 @@ fn read_gate(image: &[u8], data: usize, others: usize, words: &mut Words) -> Ver
     if others < UNCHECKED_WORDS {
         return Verdict::Refused(Refusal::ShortTable);
     }
-    let word = card::decode(image, words);
+    let decoded = card::decode(image, words);
+    let word = decoded.damaged;
     if word < WORDS {
         let bits = util::word_at(image, word);
         return Verdict::Refused(Refusal::DamagedWord { word, bits });

@@ -62,7 +62,7 @@ returns-4 c =
     )
 
 -- no word is damaged, so all of them are decoded
-sound : (c : tie.Else4) → c .before .decode .result ≡ cardWords
+sound : (c : tie.Else4) → c .before .decode .result .damaged ≡ cardWords
 sound c =
     let e = c .before .decode .ensures .0 in
     let w = damaged-within (c .before .before .before .before .before .before .before .args .image .now) in
@@ -79,7 +79,7 @@ returns-5 c =
         le-ltb _ _ (second-long (d .before .before)),
         le-ltb _ _ (rw e at (c .if4 .left)),
       ),
-      λ p. (rw (sound c) at (d .decode .ensures .1)),
+      λ p. (rw (sound c) at (d .decode .ensures .1 .1)),
     )
 
 pub read-gate-spec : {M : Type 1} → statement M
