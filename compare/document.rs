@@ -147,16 +147,28 @@ fn reading(record: &Record, f: &Frame) -> Verdict {
     (0, 0, 0)
 }
 
-pub fn infrared(f: &Frame) -> Verdict {
+// 10, of what is lent beside the tables, in this order.
+fn short(lent: &[(usize, usize)]) -> Option<Verdict> {
+    lent.iter().find(|(length, least)| length < least).map(|(length, _)| (10, *length as u64, 0))
+}
+
+/// For a destination of so many entries, as the two below.
+pub fn infrared(f: &Frame, destination: usize) -> Verdict {
     if f.tables.without_alpha() < 192 {
         return (2, 0, 0);
+    }
+    if let Some(short) = short(&[(f.pixels.len(), 384), (destination, 192), (f.mask.len(), 192)]) {
+        return short;
     }
     reading(&f.record, f)
 }
 
-pub fn temperature(f: &Frame) -> Verdict {
+pub fn temperature(f: &Frame, destination: usize) -> Verdict {
     if f.tables.alpha.len() < 192 {
         return (2, 0, 0);
+    }
+    if let Some(short) = short(&[(destination, 192), (f.mask.len(), 192)]) {
+        return short;
     }
     if f.range > 7 {
         return (6, f.range as u64, 0);
@@ -167,9 +179,12 @@ pub fn temperature(f: &Frame) -> Verdict {
     (0, 0, 0)
 }
 
-pub fn one_pass(f: &Frame) -> Verdict {
+pub fn one_pass(f: &Frame, destination: usize) -> Verdict {
     if f.tables.shortest() < 192 {
         return (2, 0, 0);
+    }
+    if let Some(short) = short(&[(f.pixels.len(), 384), (destination, 192), (f.mask.len(), 192)]) {
+        return short;
     }
     if f.range > 7 {
         return (6, f.range as u64, 0);

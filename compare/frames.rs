@@ -87,15 +87,15 @@ fn vary(n: &mut Numbers, f: &mut Frame) {
         1 => Some(n.real(-60.0, 200.0)),
         _ => Some(n.wild()),
     };
-    if n.one_in(3) {
-        let length = n.pick(&[0, 1, 2, 3, 191, 200, 382, 383, 384, 385, 386, 600]);
+    if n.one_in(6) {
+        let length = n.pick(&[0, 1, 200, 382, 383, 384, 385, 386, 600]);
         f.pixels.resize(length, 0x55);
     }
     f.mask = match n.below(5) {
         0 => (0..192).map(|_| n.below(2) as u8).collect(),
-        1 => (0..n.below(200)).map(|_| n.next() as u8).collect(),
+        1 => (0..192 + n.below(9)).map(|_| n.next() as u8).collect(),
         2 => (0..250).map(|_| n.pick(&[0, 0, 0, 0x80])).collect(),
-        _ => vec![n.pick(&[1, 255]); n.pick(&[192, 192, 192, 191, 193, 0])],
+        _ => vec![n.pick(&[1, 255]); n.pick(&[192, 192, 192, 192, 192, 192, 193, 191, 0])],
     };
 }
 
@@ -191,7 +191,7 @@ pub fn made(n: &mut Numbers) -> (&'static str, Frame) {
 }
 
 pub fn destination(n: &mut Numbers, kind: &str) -> Vec<u32> {
-    let length = if kind == "realistic" { 192 } else { n.pick(&[192, 192, 192, 192, 0, 1, 191, 193, 300]) };
+    let length = if kind == "realistic" { 192 } else { n.pick(&[192, 192, 192, 192, 192, 192, 192, 192, 0, 1, 191, 193, 300]) };
     match n.below(3) {
         0 => (0..length).map(|_| n.wild().to_bits()).collect(),
         1 => (0..length).map(|_| n.real(-300.0, 3000.0).to_bits()).collect(),
@@ -224,7 +224,6 @@ struct Judged<'a> {
     label: &'a str,
     mask: &'a [u8],
     before: &'a [u32],
-    count: usize,
 }
 
 // One call: its verdict by the document, the library's answer and destination, and what the crate said. True if there are pixels to go on with.
@@ -253,7 +252,7 @@ fn judge(tally: &mut Tally, j: &Judged, verdict: Verdict, answer: Answer, after:
     }
     let mut lost = 0;
     for (i, (want, is)) in wanted.iter().zip(after).enumerate() {
-        let written = i < j.count && j.mask.get(i).is_some_and(|byte| *byte != 0);
+        let written = i < 192 && j.mask[i] != 0;
         let agrees = if written { same(*want, *is) } else { *is == j.before[i] && want.to_bits() == j.before[i] };
         if !agrees {
             let (bits, was) = (want.to_bits(), j.before[i]);
@@ -304,16 +303,15 @@ fn one(tally: &mut Tally, powf: &mut [Powf; 2], n: &mut Numbers, label: &str) {
     }
     tally.count(&format!("frames, {kind}"));
     let before = destination(n, kind);
-    let count = 192.min(before.len()).min(f.pixels.len() / 2);
 
     let mut after = before.clone();
     let answer = library::raw_pixels_to_ir_data(&f, &mut after);
     let said = of_call(&before, |destination| published::raw_pixels_to_ir_data(&f, destination));
-    let j = Judged { call: "infrared", label, mask: &f.mask, before: &before, count };
-    let infrared = judge(tally, &j, document::infrared(&f), answer, &after, &said).then(|| (after.clone(), f32::from_bits(answer.t_a)));
+    let j = Judged { call: "infrared", label, mask: &f.mask, before: &before };
+    let infrared = judge(tally, &j, document::infrared(&f, before.len()), answer, &after, &said).then(|| (after.clone(), f32::from_bits(answer.t_a)));
     if kind == "realistic" {
         let said = of_call(&before, |destination| published::own_infrared(&f, destination));
-        judge(tally, &Judged { call: "infrared by the crate's own types", ..j }, document::infrared(&f), answer, &after, &said);
+        judge(tally, &Judged { call: "infrared by the crate's own types", ..j }, document::infrared(&f, before.len()), answer, &after, &said);
     }
 
     // From the infrared numbers of this frame, or from whatever stands in the destination.
@@ -324,22 +322,22 @@ fn one(tally: &mut Tally, powf: &mut [Powf; 2], n: &mut Numbers, label: &str) {
     let mut after = from.clone();
     let answer = library::raw_ir_to_temperatures(&f, t_a, &mut after);
     let said = of_call(&from, |destination| rooted::raw_ir_to_temperatures(&f, t_a, destination));
-    let j = Judged { call: "temperature", label, mask: &f.mask, before: &from, count: 192.min(from.len()) };
-    judge(tally, &j, document::temperature(&f), answer, &after, &said);
+    let j = Judged { call: "temperature", label, mask: &f.mask, before: &from };
+    judge(tally, &j, document::temperature(&f, from.len()), answer, &after, &said);
 
     let mut after = before.clone();
     let answer = library::raw_pixels_to_temperatures(&f, &mut after);
     let said = of_call(&before, |destination| rooted::raw_pixels_to_temperatures(&f, destination));
-    let j = Judged { call: "one pass", label, mask: &f.mask, before: &before, count };
-    if judge(tally, &j, document::one_pass(&f), answer, &after, &said) {
+    let j = Judged { call: "one pass", label, mask: &f.mask, before: &before };
+    if judge(tally, &j, document::one_pass(&f, before.len()), answer, &after, &said) {
         if kind == "realistic" {
             let said = of_call(&before, |destination| rooted::own_one_pass(&f, destination));
-            judge(tally, &Judged { call: "one pass by the crate's own types", ..j }, document::one_pass(&f), answer, &after, &said);
+            judge(tally, &Judged { call: "one pass by the crate's own types", ..j }, document::one_pass(&f, before.len()), answer, &after, &said);
         }
         let mut destination = floats(&before);
         published::raw_pixels_to_temperatures(&f, &mut destination);
         let class = &mut powf[usize::from(kind != "realistic")];
-        compare_powf(class, label, &destination, &after, |i| i < count && f.mask.get(i).is_some_and(|byte| *byte != 0));
+        compare_powf(class, label, &destination, &after, |i| i < 192 && f.mask[i] != 0);
     }
 }
 

@@ -324,7 +324,7 @@ struct Told {
     after: Vec<u32>,
 }
 
-fn told(s: &mut Stream, call: &str, f: &Frame, verdict: Verdict, before: &[u32], count: usize, said: Said) -> Told {
+fn told(s: &mut Stream, call: &str, f: &Frame, verdict: Verdict, before: &[u32], said: Said) -> Told {
     let did = if said.is_some() { ANSWERED } else { PANIC };
     s.count(format!("{call}, verdict {}, {}", verdict.0, if did == PANIC { "crate panics" } else { "crate goes on" }));
     let mut told = Told { did, verdict, t_a: 0, lost: 0, after: before.to_vec() };
@@ -335,7 +335,7 @@ fn told(s: &mut Stream, call: &str, f: &Frame, verdict: Verdict, before: &[u32],
     let (t_a, pixels) = said.expect("the crate goes on where there is no refusal");
     told.t_a = bits(t_a);
     for (i, pixel) in pixels.iter().enumerate() {
-        if i < count && f.mask.get(i).is_some_and(|byte| *byte != 0) {
+        if i < 192 && f.mask[i] != 0 {
             told.after[i] = bits(*pixel);
             told.lost += u32::from(pixel.is_nan());
             s.count(format!("{call}, pixels {}", kind_of(*pixel)));
@@ -386,9 +386,8 @@ fn frame(s: &mut Stream, class: &str, mut f: Frame, mut before: Vec<u32>, given:
     before.truncate(ENTRIES);
     f.pixels.truncate(PIXELS);
     f.mask.truncate(ENTRIES);
-    let count = 192.min(before.len()).min(f.pixels.len() / 2);
     let said = of_call(&before, |destination| published::raw_pixels_to_ir_data(&f, destination));
-    let infrared = told(s, "infrared", &f, document::infrared(&f), &before, count, said);
+    let infrared = told(s, "infrared", &f, document::infrared(&f, before.len()), &before, said);
 
     let (from, t_a) = match given {
         Some(t_a) => (before.clone(), t_a),
@@ -396,10 +395,10 @@ fn frame(s: &mut Stream, class: &str, mut f: Frame, mut before: Vec<u32>, given:
         None => (before.clone(), if n.one_in(2) { n.real(-40.0, 90.0) } else { n.wild() }),
     };
     let said = of_call(&from, |destination| rooted::raw_ir_to_temperatures(&f, t_a, destination));
-    let temperatures = told(s, "temperatures", &f, document::temperature(&f), &from, 192.min(from.len()), said);
+    let temperatures = told(s, "temperatures", &f, document::temperature(&f, from.len()), &from, said);
 
     let said = of_call(&before, |destination| rooted::raw_pixels_to_temperatures(&f, destination));
-    let pass = told(s, "one pass", &f, document::one_pass(&f), &before, count, said);
+    let pass = told(s, "one pass", &f, document::one_pass(&f, before.len()), &before, said);
 
     lean(s, &f);
     s.head(7, ANSWERED, 0, 0, (0, 0, 0));
@@ -493,7 +492,7 @@ fn caller_corners(s: &mut Stream, n: &mut Numbers) {
 }
 
 fn lengths_of_frames(s: &mut Stream, n: &mut Numbers) {
-    for length in [0, 1, 2, 3, 191, 383, 385, 400] {
+    for length in [0, 1, 200, 383, 385, 400] {
         corner(s, n, "pixel bytes", |f| f.pixels.resize(length, 0x55));
     }
     for length in [0, 1, 191, 193, 200] {

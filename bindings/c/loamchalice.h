@@ -16,6 +16,8 @@
  *   8  a divisor is zero, or the emissivity is zero or not a number
  *   9  data to encode is above 2047                          place: the data
  *      an entry of a list to write is above 2047             place: its index, value: the data
+ *  10  pixel bytes below 384, destination below 192 or mask   place: its length
+ *      below 192; tested after 2 and before 6
  *  14  the MLX90640 has no such pixel: 768 or more           place: the pixel
  *
  * Pixels are floats lent as their bits, uint32_t: the same size and alignment as float. Every not-a-number that a call writes is 0x7FC00000. */
@@ -109,8 +111,8 @@ loamchalice_part loamchalice_alpha_row(const uint8_t *image, size_t image_length
  * number the second. Refuses nothing. */
 loamchalice_part loamchalice_subpage_offsets(const int32_t *zero, size_t zero_length, const int32_t *one, size_t one_length, uint8_t subpage);
 
-/* Pixels, two bytes each and the upper first, to infrared numbers. Mask byte i belongs to pixel i: 0, or no byte left, leaves it.
- * At most 192 pixels, the destination's length, and half the pixel bytes. Refusals 2, 7, 8. */
+/* Pixels, two bytes each and the upper first, to infrared numbers. Mask byte i belongs to pixel i: 0 leaves it.
+ * 384 pixel bytes, 192 mask bytes and 192 entries are taken; what follows them is not read and stays. Refusals 2, 10, 7, 8. */
 loamchalice_answer loamchalice_raw_pixels_to_ir_data(
     loamchalice_record calibration, float emissivity, float resolution_correction, float v_dd_0, loamchalice_ram ram, uint8_t subpage,
     const int32_t *offsets0, size_t offsets0_length, const int32_t *offsets1, size_t offsets1_length,
@@ -119,13 +121,13 @@ loamchalice_answer loamchalice_raw_pixels_to_ir_data(
     uint32_t *destination, size_t destination_length);
 
 /* Infrared numbers to temperatures, in place. `reflected` is the reflected temperature where reflected_given is not 0, else the self-heating
- * that the ambient temperature loses. Refusals 2, 6, 8 (for the emissivity only). */
+ * that the ambient temperature loses. Refusals 2, 10, 6, 8 (for the emissivity only). */
 loamchalice_answer loamchalice_raw_ir_to_temperatures(
     loamchalice_record calibration, float emissivity, float t_a, size_t basic_range, uint8_t reflected_given, float reflected,
     const float *alpha, size_t alpha_length, const uint8_t *mask, size_t mask_length,
     uint32_t *destination, size_t destination_length);
 
-/* Pixels to temperatures in one pass; which pixels are written is as with infrared numbers. Refusals 2, 6, 7, 8. */
+/* Pixels to temperatures in one pass; which pixels are written is as with infrared numbers. Refusals 2, 10, 6, 7, 8. */
 loamchalice_answer loamchalice_raw_pixels_to_temperatures(
     loamchalice_record calibration, float emissivity, float resolution_correction, float v_dd_0, loamchalice_ram ram, uint8_t subpage,
     size_t basic_range, uint8_t reflected_given, float reflected,

@@ -1,4 +1,4 @@
-//! The lamp box's loop: a card, frames, a limit; lamp down on any refusal or lost pixel, and on a pixel that a short frame left.
+//! The lamp box's loop: a card, frames, a limit; lamp down on any refusal, a short frame among them, or lost pixel.
 //!   cargo run --offline --example lamp -- ../../cards/sound.bin
 use loamchalice::{Calibration, RamData, Refusal, Settings, Subpage, ALL_PIXELS};
 
@@ -20,7 +20,6 @@ fn read_camera(frame: i16) -> (RamData, Vec<u8>) {
 fn judge(camera: &Calibration, frame: i16, picture: &mut [f32; 192]) -> Result<Lamp, Refusal> {
     let (ram, pixels) = read_camera(frame);
     let subpage = if frame % 2 == 0 { Subpage::Zero } else { Subpage::One };
-    picture.fill(f32::INFINITY); // what is not written counts as hot
     let seen = camera.raw_pixels_to_temperatures(&Settings::default(), ram, subpage, &pixels, &ALL_PIXELS, picture)?;
     if seen.lost > 0 {
         return Ok(Lamp::Down(format!("{} pixels lost", seen.lost)));

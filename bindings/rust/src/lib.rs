@@ -272,8 +272,8 @@ impl Calibration {
         &self.alpha
     }
 
-    /// Pixels, two bytes each and the upper first, to infrared numbers. A pixel whose mask is false or missing stays as it was, and so does one
-    /// that too few pixel bytes don't reach; that is no refusal. Refusals 7, 8.
+    /// Pixels, two bytes each and the upper first, to infrared numbers. A pixel whose mask is false stays as it was. Refusals 10, 7, 8; arrays of
+    /// 384 bytes, 192 bools and 192 numbers can't meet 10.
     pub fn raw_pixels_to_ir_data(
         &self,
         settings: &Settings,
@@ -287,15 +287,31 @@ impl Calibration {
         answered(border::raw_pixels_to_ir_data(&reading, as_bits(destination)))
     }
 
-    /// Infrared numbers to temperatures, in place, for the ambient temperature that the infrared call gave. A pixel whose mask is false or
-    /// missing stays as it was. Refusals 6, 8.
+    /// Infrared numbers to temperatures, in place, for the ambient temperature that the infrared call gave. A pixel whose mask is false stays as
+    /// it was. Refusals 10, 6, 8.
     pub fn raw_ir_to_temperatures(&self, settings: &Settings, t_a: f32, valid_pixels: &[bool], destination: &mut [f32]) -> Result<Frame, Refusal> {
         let heat = self.heat(settings);
         let mask = as_bytes(valid_pixels);
         answered(border::raw_ir_to_temperatures(self.record, settings.emissivity, t_a, &heat, mask, as_bits(destination)))
     }
 
-    /// Pixels to temperatures in one pass; which pixels are written is as with infrared numbers. Refusals 6, 7, 8.
+    /// A whole frame in one pass: the temperatures of all 192 pixels. Refusals 6, 7, 8.
+    ///
+    /// ```
+    /// use loamchalice::{Calibration, RamData, Settings, Subpage};
+    /// let camera = Calibration::from_data(include_bytes!("../../../cards/sound.bin"))?;
+    /// let ram = RamData { t_a_v_be: 19442, t_a_ptat: 1711, v_dd_pixel: -13115, gain: 6391, compensation_pixel: -105 };
+    /// let (picture, frame) = camera.picture(&Settings::default(), ram, Subpage::Zero, &[0xFD; 384])?;
+    /// assert_eq!((picture.len(), frame.lost), (192, 0));
+    /// # Ok::<(), loamchalice::Refusal>(())
+    /// ```
+    pub fn picture(&self, settings: &Settings, ram: RamData, subpage: Subpage, pixels: &[u8; 384]) -> Result<([f32; 192], Frame), Refusal> {
+        let mut picture = [0.0; 192];
+        let frame = self.raw_pixels_to_temperatures(settings, ram, subpage, pixels, &ALL_PIXELS, &mut picture)?;
+        Ok((picture, frame))
+    }
+
+    /// Pixels to temperatures in one pass; which pixels are written is as with infrared numbers. Refusals 10, 6, 7, 8.
     pub fn raw_pixels_to_temperatures(
         &self,
         settings: &Settings,

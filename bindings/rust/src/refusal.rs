@@ -1,7 +1,7 @@
 use std::error::Error;
 use std::fmt;
 
-/// What stops a call, before it has written anything. Lowest number first where there are several.
+/// What stops a call, before it has written anything. Lowest number first where there are several, but for 10, which comes after 2.
 #[derive(Clone, Copy, Debug, PartialEq, Eq)]
 pub enum Refusal {
     /// 1: the image is below 1,664 bytes.
@@ -22,6 +22,8 @@ pub enum Refusal {
     DataTooLarge { data: u16 },
     /// 9: an entry of a [`Card`](crate::Card)'s data is above 2047.
     ListedDataTooLarge { index: usize, data: u16 },
+    /// 10: pixel bytes, destination or mask are too short for a frame. Arrays of 384, 192 and 192 never are.
+    ShortFrame { length: usize },
     /// 14: the pixel number is 768 or more, which the MLX90640 does not have.
     PixelNumber { pixel: usize },
 }
@@ -41,12 +43,13 @@ impl Refusal {
             8 => Refusal::ZeroDivisor,
             9 if value == 0 => Refusal::DataTooLarge { data: place as u16 },
             9 => Refusal::ListedDataTooLarge { index: at, data: value as u16 },
+            10 => Refusal::ShortFrame { length: at },
             14 => Refusal::PixelNumber { pixel: at },
             _ => unreachable!("the library has no such refusal"),
         })
     }
 
-    /// 1 to 4, 6 to 9, or 14; 5 is no longer used.
+    /// 1 to 4, 6 to 10, or 14; 5 is no longer used.
     pub fn number(self) -> u64 {
         match self {
             Refusal::ShortImage { .. } => 1,
@@ -57,6 +60,7 @@ impl Refusal {
             Refusal::SupplyRange => 7,
             Refusal::ZeroDivisor => 8,
             Refusal::DataTooLarge { .. } | Refusal::ListedDataTooLarge { .. } => 9,
+            Refusal::ShortFrame { .. } => 10,
             Refusal::PixelNumber { .. } => 14,
         }
     }
@@ -70,6 +74,7 @@ impl Refusal {
             Refusal::BasicRange { range } => range as u64,
             Refusal::DataTooLarge { data } => data.into(),
             Refusal::ListedDataTooLarge { index, .. } => index as u64,
+            Refusal::ShortFrame { length } => length as u64,
             Refusal::PixelNumber { pixel } => pixel as u64,
             Refusal::ShortTable | Refusal::SupplyRange | Refusal::ZeroDivisor => 0,
         }
@@ -98,6 +103,7 @@ impl fmt::Display for Refusal {
             Refusal::ZeroDivisor => write!(f, "a divisor is zero, or the emissivity is zero or not a number"),
             Refusal::DataTooLarge { data } => write!(f, "{data} is above 2047"),
             Refusal::ListedDataTooLarge { index, data } => write!(f, "entry {index} of the data is {data}, above 2047"),
+            Refusal::ShortFrame { length } => write!(f, "{length} is too short for a frame's pixel bytes, destination or mask"),
             Refusal::PixelNumber { pixel } => write!(f, "there is no pixel {pixel}, only 0 to 767"),
         }
     }

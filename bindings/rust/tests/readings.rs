@@ -50,14 +50,13 @@ fn one_pass_or_two() {
 }
 
 #[test]
-fn what_a_short_frame_does_not_reach_stays() {
+fn half_a_picture_does_not_pass() {
     let camera = Calibration::from_data(SOUND).unwrap();
     let pixels = [0xFD, 0x94].repeat(100);
     let mut picture = [f32::INFINITY; 192];
-    let frame = camera.raw_pixels_to_temperatures(&Settings::default(), ROOM, Subpage::Zero, &pixels, &ALL_PIXELS, &mut picture).unwrap();
-    assert_eq!(frame.lost, 0);
-    assert!(picture[..100].iter().all(|t| t.is_finite()));
-    assert!(picture[100..].iter().all(|t| *t == f32::INFINITY));
+    let frame = camera.raw_pixels_to_temperatures(&Settings::default(), ROOM, Subpage::Zero, &pixels, &ALL_PIXELS, &mut picture);
+    assert_eq!(frame, Err(Refusal::ShortFrame { length: 200 }));
+    assert!(picture.iter().all(|t| *t == f32::INFINITY));
 }
 
 #[test]

@@ -4,6 +4,7 @@ use mathlib.Core.Path.{_≡_, ap₂, _∙_}
 use mathlib.Core.List.{List}
 use lib.ListN.{getD, length}
 use lib.Ieee.{Float, nan}
+use Rattle.map.specs.Map.{framePixels}
 use Rattle.formulas.specs.Pixel.{reflectedOf, tArOf, sensitivityOf, finalOf, answerOf}
 use Rattle.pixels.specs.Pixels.{held, answerBits, temperatureBits, into, lostOf}
 use Rattle.pixels.proofs.Stages.{pass-lost, pass-into}
@@ -16,8 +17,8 @@ use Rattle.calculations.proofs.Calls.{infrared-fits}
 abbrev pub onwardAt : PassCall → Float → ToCall
 onwardAt f tA = toCall (f .ir .calibration) (f .ir .emissivity) tA (f .range) (f .reflected) (f .alpha) (f .ir .mask)
 
-module _ (f : PassCall) (n : ℕ) {d d₁ d₂ : List ℕ} {r : Summary} {lost : ℕ} (l : n ≤ length d)
-    (i : Infrared (f .ir) n d d₁ r) (t : Temperature (onwardAt f (r .«t_a»)) n d₁ d₂ lost) where
+module _ (f : PassCall) {d d₁ d₂ : List ℕ} {r : Summary} {lost : ℕ} (l : framePixels ≤ length d)
+    (i : Infrared (f .ir) d d₁ r) (t : Temperature (onwardAt f (r .«t_a»)) d₁ d₂ lost) where
   abbrev bits : Float → ℕ → ℕ
   bits x k =
       let g = onward f in
@@ -27,14 +28,14 @@ module _ (f : PassCall) (n : ℕ) {d d₁ d₂ : List ℕ} {r : Summary} {lost :
   abbrev staged-bits : Float → List ℕ → ℕ → ℕ
   staged-bits tA w = temperatureBits (finalAt (onwardAt f tA) (held w)) (held w)
 
-  pub both-lost : lost ≡ lostOf (f .ir .mask) (temperatureBits (finalAt (onward f) (infraredAt (f .ir))) (infraredAt (f .ir))) n
+  pub both-lost : lost ≡ lostOf (f .ir .mask) (temperatureBits (finalAt (onward f) (infraredAt (f .ir))) (infraredAt (f .ir)))
   unfolding finalAt
   both-lost =
-      t .lost-is ∙ ap₂ (λ (tA : Float) (w : List ℕ). lostOf (f .ir .mask) (staged-bits tA w) n) (i .ambient) (i .destination)
-      ∙ pass-lost (f .ir .mask) (infraredAt (f .ir)) (infrared-fits (f .ir)) n d l bits
+      t .lost-is ∙ ap₂ (λ (tA : Float) (w : List ℕ). lostOf (f .ir .mask) (staged-bits tA w)) (i .ambient) (i .destination)
+      ∙ pass-lost (f .ir .mask) (infraredAt (f .ir)) (infrared-fits (f .ir)) d l bits
 
-  pub both-into : d₂ ≡ into (f .ir .mask) (temperatureBits (finalAt (onward f) (infraredAt (f .ir))) (infraredAt (f .ir))) n d
+  pub both-into : d₂ ≡ into (f .ir .mask) (temperatureBits (finalAt (onward f) (infraredAt (f .ir))) (infraredAt (f .ir))) d
   unfolding finalAt
   both-into =
-      t .destination ∙ ap₂ (λ (tA : Float) (w : List ℕ). into (f .ir .mask) (staged-bits tA w) n w) (i .ambient) (i .destination)
-      ∙ pass-into (f .ir .mask) (infraredAt (f .ir)) (infrared-fits (f .ir)) n d l bits
+      t .destination ∙ ap₂ (λ (tA : Float) (w : List ℕ). into (f .ir .mask) (staged-bits tA w) w) (i .ambient) (i .destination)
+      ∙ pass-into (f .ir .mask) (infraredAt (f .ir)) (infrared-fits (f .ir)) d l bits

@@ -51,12 +51,12 @@ pub infrared-fits : (f : IrCall) (k : ℕ) → T (fits binary32 (infraredAt f k)
 unfolding infraredAt
 infrared-fits f k = lifted.infrared-fits (f .calibration) (common f) (f .compensation) _ _ _ _
 
-module _ {verdict : Verdict} {tA : Float} {mask : List ℕ} {n : ℕ} {bits : ℕ → ℕ} {d : List ℕ} where
-  pub refused : {x : Refusal} → verdict ≡ Verdict.Refused x → Writes verdict tA mask n bits d d (Refused x)
+module _ {verdict : Verdict} {tA : Float} {mask : List ℕ} {bits : ℕ → ℕ} {d : List ℕ} where
+  pub refused : {x : Refusal} → verdict ≡ Verdict.Refused x → Writes verdict tA mask bits d d (Refused x)
   refused e = record { answer = rw e; destination = rw e }
 
-  pub done : {d′ : List ℕ} {t lost : ℕ} → verdict ≡ Verdict.Pass → t ≡ toBits binary32 tA → lost ≡ lostOf mask bits n → d′ ≡ into mask bits n d
-      → Writes verdict tA mask n bits d d′ (Done t lost)
+  pub done : {d′ : List ℕ} {t lost : ℕ} → verdict ≡ Verdict.Pass → t ≡ toBits binary32 tA → lost ≡ lostOf mask bits → d′ ≡ into mask bits d
+      → Writes verdict tA mask bits d d′ (Done t lost)
   done e p q r = record { answer = rw e (ap₂ Done p q); destination = rw e r }
 
 -- the same call with the same reading

@@ -8,8 +8,8 @@ use Rattle.refusal.specs.declared.Verdict.{Verdict}
 use Rattle.calculations.specs.declared.Frame.{Frame}
 use Rattle.calculations.specs.Frames.{IrCall, ToCall, PassCall, Writes, Infrareds, Temperatures, Passes}
 
-pub single : {verdict : Verdict} {tA : Float} {mask : List ℕ} {n : ℕ} {bits : ℕ → ℕ} {d x y : List ℕ} {r q : Frame}
-    → Writes verdict tA mask n bits d x r → Writes verdict tA mask n bits d y q → (r ≡ q) × (x ≡ y)
+pub single : {verdict : Verdict} {tA : Float} {mask : List ℕ} {bits : ℕ → ℕ} {d x y : List ℕ} {r q : Frame}
+    → Writes verdict tA mask bits d x r → Writes verdict tA mask bits d y q → (r ≡ q) × (x ≡ y)
 single p s = (p .answer ∙ sym (s .answer), p .destination ∙ sym (s .destination))
 
 pub single-infrared : (f : IrCall) (d x y : List ℕ) (r q : Frame) → Infrareds f d x r → Infrareds f d y q → (r ≡ q) × (x ≡ y)

@@ -1,12 +1,11 @@
 -- What the three calls say: their answer, and the whole destination at exit. Assumes nothing.
-use Prim.Native.Nat.{ℕ, min, _*_, _/_}
+use Prim.Native.Nat.{ℕ, min}
 use mathlib.Core.Path.{_≡_}
 use mathlib.Core.List.{List}
 use lib.IntN.{ℤ, pos}
 use lib.ListN.{getD, length}
 use lib.Ieee.{Float, nan, binary32, toBits}
 use Rattle.floats.specs.Floats.{real}
-use Rattle.map.specs.Map.{framePixels}
 use Rattle.refusal.specs.Refusal.{unless}
 use Rattle.refusal.specs.Order.{firstOf}
 use Rattle.refusal.specs.declared.Verdict.{Verdict}
@@ -21,18 +20,10 @@ use Rattle.formulas.specs.declared.Supply.{Supply}
 use Rattle.formulas.specs.Frame.{commonOf}
 use Rattle.formulas.specs.Pixel.{infraredOf, reflectedOf, tArOf, sensitivityOf, finalOf}
 use Rattle.gates.specs.declared.Lengths.{Lengths}
-use Rattle.gates.specs.Gate.{infraredTests, temperatureTests, onePassTests}
+use Rattle.gates.specs.Gate.{frameBytes, infraredTests, temperatureTests, onePassTests}
 use Rattle.pixels.specs.Pixels.{readingAt, held, infraredBits, temperatureBits, into, lostOf}
 use Rattle.calculations.specs.declared.Frame.{Frame}
 use Rattle.calculations.specs.declared.Frame.the-variants.{Done, Refused}
-
--- two bytes to a pixel
-abbrev pub frameBytes : ℕ
-frameBytes = 2 * framePixels
-
--- n: the least of 192, destination length and half the pixel bytes, rounded down
-abbrev pub countOf : Lengths → ℕ
-countOf l = min framePixels (min (l .destination) (l .pixels / 2))
 
 -- ---- what any frame call says
 
@@ -41,11 +32,11 @@ abbrev pub answerBy : Verdict → Frame → Frame
 answerBy Verdict.Pass done = done
 answerBy (Verdict.Refused refusal) done = Refused refusal
 
--- of the destination d before and d′ after, and of the answer r: refused by the verdict, or pixel k below n, where the mask asks for it, is
--- written as `bits k`, and the answer holds t_a and how many were written as the pattern
-pub record Writes (verdict : Verdict) (tA : Float) (mask : List ℕ) (n : ℕ) (bits : ℕ → ℕ) (d d′ : List ℕ) (r : Frame) : Type 0 where
-  pub answer : r ≡ answerBy verdict (Done (toBits binary32 tA) (lostOf mask bits n))
-  pub destination : d′ ≡ unless verdict (into mask bits n d) d
+-- of the destination d before and d′ after, and of the answer r: refused by the verdict, or each of the 192 pixels, where the mask asks for it,
+-- is written as `bits k`, and the answer holds t_a and how many were written as the pattern
+pub record Writes (verdict : Verdict) (tA : Float) (mask : List ℕ) (bits : ℕ → ℕ) (d d′ : List ℕ) (r : Frame) : Type 0 where
+  pub answer : r ≡ answerBy verdict (Done (toBits binary32 tA) (lostOf mask bits))
+  pub destination : d′ ≡ unless verdict (into mask bits d) d
 
 -- ---- pixels to infrared
 
@@ -98,13 +89,13 @@ abbrev pub irTable : IrCall → ℕ
 irTable f = min (min (length (f .offsets0)) (length (f .offsets1))) (min (length (f .kV)) (length (f .kTa)))
 
 abbrev pub irLengths : IrCall → List ℕ → Lengths
-irLengths f d = record { table = irTable f; pixels = length (f .pixels); destination = length d }
+irLengths f d = record { table = irTable f; pixels = length (f .pixels); destination = length d; mask = length (f .mask) }
 
 unfoldable pub irVerdict : IrCall → List ℕ → Verdict
 irVerdict f d = firstOf (infraredTests (f .calibration) (f .emissivity) (f .ram) (irLengths f d))
 
 abbrev pub Infrareds : IrCall → List ℕ → List ℕ → Frame → Type 0
-Infrareds f d d′ r = Writes (irVerdict f d) (common f .«t_a») (f .mask) (countOf (irLengths f d)) (infraredBits (infraredAt f)) d d′ r
+Infrareds f d d′ r = Writes (irVerdict f d) (common f .«t_a») (f .mask) (infraredBits (infraredAt f)) d d′ r
 
 -- ---- infrared to temperature
 
@@ -136,7 +127,7 @@ finalAt f v k =
 
 -- no pixel bytes are taken, so none are wanting
 abbrev pub toLengths : ToCall → List ℕ → Lengths
-toLengths f d = record { table = length (f .alpha); pixels = frameBytes; destination = length d }
+toLengths f d = record { table = length (f .alpha); pixels = frameBytes; destination = length d; mask = length (f .mask) }
 
 unfoldable pub toVerdict : ToCall → List ℕ → Verdict
 toVerdict f d = firstOf (temperatureTests (f .emissivity) (f .range) (toLengths f d))
@@ -144,7 +135,7 @@ toVerdict f d = firstOf (temperatureTests (f .emissivity) (f .range) (toLengths 
 -- the infrared numbers are those that the destination holds
 abbrev pub Temperatures : ToCall → List ℕ → List ℕ → Frame → Type 0
 Temperatures f d d′ r =
-    Writes (toVerdict f d) (f .ambient) (f .mask) (countOf (toLengths f d)) (temperatureBits (finalAt f (held d)) (held d)) d d′ r
+    Writes (toVerdict f d) (f .ambient) (f .mask) (temperatureBits (finalAt f (held d)) (held d)) d d′ r
 
 -- ---- both in one pass
 
@@ -162,12 +153,12 @@ abbrev pub onward : PassCall → ToCall
 onward f = toCall (f .ir .calibration) (f .ir .emissivity) (common (f .ir) .«t_a») (f .range) (f .reflected) (f .alpha) (f .ir .mask)
 
 abbrev pub passLengths : PassCall → List ℕ → Lengths
-passLengths f d = record { table = min (length (f .alpha)) (irTable (f .ir)); pixels = length (f .ir .pixels); destination = length d }
+passLengths f d = record { table = min (length (f .alpha)) (irTable (f .ir)); pixels = length (f .ir .pixels); destination = length d; mask = length (f .ir .mask) }
 
 unfoldable pub passVerdict : PassCall → List ℕ → Verdict
 passVerdict f d = firstOf (onePassTests (f .ir .calibration) (f .ir .emissivity) (f .ir .ram) (f .range) (passLengths f d))
 
 abbrev pub Passes : PassCall → List ℕ → List ℕ → Frame → Type 0
 Passes f d d′ r =
-    Writes (passVerdict f d) (common (f .ir) .«t_a») (f .ir .mask) (countOf (passLengths f d))
+    Writes (passVerdict f d) (common (f .ir) .«t_a») (f .ir .mask)
     (temperatureBits (finalAt (onward f) (infraredAt (f .ir))) (infraredAt (f .ir))) d d′ r

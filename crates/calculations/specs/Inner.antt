@@ -1,4 +1,4 @@
--- For inner functions only: what has been done to n pixels where nothing was refused. Assumes nothing.
+-- For inner functions only: what has been done to the pixels where nothing was refused. Assumes nothing.
 use Prim.Native.Nat.{ℕ}
 use mathlib.Core.Path.{_≡_}
 use mathlib.Core.List.{List}
@@ -6,11 +6,11 @@ use Rattle.pixels.specs.Pixels.{held, infraredBits, temperatureBits, into, lost
 use Rattle.calculations.specs.declared.Summary.{Summary}
 use Rattle.calculations.specs.Frames.{IrCall, ToCall, common, infraredAt, finalAt}
 
-pub record Infrared (f : IrCall) (n : ℕ) (d d′ : List ℕ) (r : Summary) : Type 0 where
+pub record Infrared (f : IrCall) (d d′ : List ℕ) (r : Summary) : Type 0 where
   pub ambient : r .«t_a» ≡ common f .«t_a»
-  pub lost : r .lost ≡ lostOf (f .mask) (infraredBits (infraredAt f)) n
-  pub destination : d′ ≡ into (f .mask) (infraredBits (infraredAt f)) n d
+  pub lost : r .lost ≡ lostOf (f .mask) (infraredBits (infraredAt f))
+  pub destination : d′ ≡ into (f .mask) (infraredBits (infraredAt f)) d
 
-pub record Temperature (f : ToCall) (n : ℕ) (d d′ : List ℕ) (lost : ℕ) : Type 0 where
-  pub lost-is : lost ≡ lostOf (f .mask) (temperatureBits (finalAt f (held d)) (held d)) n
-  pub destination : d′ ≡ into (f .mask) (temperatureBits (finalAt f (held d)) (held d)) n d
+pub record Temperature (f : ToCall) (d d′ : List ℕ) (lost : ℕ) : Type 0 where
+  pub lost-is : lost ≡ lostOf (f .mask) (temperatureBits (finalAt f (held d)) (held d))
+  pub destination : d′ ≡ into (f .mask) (temperatureBits (finalAt f (held d)) (held d)) d

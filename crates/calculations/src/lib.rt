@@ -4,7 +4,7 @@ ghost use Prim.Native.Nat.{min, _*_, _<_, _≤_};
 ghost use lib.ListN.{length, getD};
 ghost use lib.Ieee.{nan};
 ghost use Rattle.map.specs.Map.{framePixels};
-ghost use Rattle.calculations.specs.Frames.{irCall, toCall, passCall, ownReading, countOf, Infrareds, Temperatures, Passes};
+ghost use Rattle.calculations.specs.Frames.{irCall, toCall, passCall, ownReading, Infrareds, Temperatures, Passes};
 ghost use Rattle.calculations.specs.Inner.{Infrared, Temperature};
 use calibration::Calibration;
 use eeprom::Subpage;
@@ -12,25 +12,14 @@ use formulas::RamData;
 use formulas::Reflected;
 use formulas::Supply;
 use gates::Lengths;
-use map::PIXELS;
 use offsets::Offset;
 use refusal::Refusal;
 use refusal::Verdict;
-
-// Two bytes to a pixel.
-const FRAME_BYTES: usize = 384;
 
 // What a frame answers: the ambient temperature's bits and how many pixels this call wrote as the pattern, or the refusal.
 pub enum Frame {
     Done { t_a: u32, lost: usize },
     Refused(Refusal),
-}
-
-// How many pixels a frame has.
-fn pixel_count(lengths: Lengths) -> usize
-    ensures { λ r. ⌜ r ≡ countOf lengths ⌝ }
-{
-    util::least(PIXELS, util::least(lengths.destination, lengths.pixels / 2))
 }
 
 // K_sTo of the basic range.
@@ -55,7 +44,7 @@ struct Summary {
     lost: usize,
 }
 
-// Writes the infrared numbers of pixels 0 to n - 1, from any reading of the compensation pixel.
+// Writes the infrared numbers of the pixels, from any reading of the compensation pixel.
 fn write_infrared<'a>(
     calibration: Calibration,
     emissivity: f32,
@@ -70,12 +59,11 @@ fn write_infrared<'a>(
     pixels: &[u8],
     mask: &[u8],
     destination: &mut [u32],
-    n: usize,
 ) -> Summary
-    requires { ⌜ (n ≤ framePixels) × (n ≤ length (now destination)) × (n * 2 ≤ length (now pixels)) ⌝ }
+    requires { ⌜ (framePixels ≤ length (now destination)) × (framePixels * 2 ≤ length (now pixels)) × (framePixels ≤ length (now mask)) ⌝ }
     requires { ⌜ framePixels ≤ min (min (length (now offsets0)) (length (now offsets1))) (min (length (now «k_v»)) (length (now «k_ta»))) ⌝ }
     ensures { λ r. ⌜ Infrared (irCall calibration emissivity supply ram compensation subpage (now (offsets0 .entry)) (now (offsets1 .entry)) (now («k_v» .entry)) (now («k_ta» .entry)) (now (pixels .entry)) (now (mask .entry)))
-        n (now (destination .entry)) (now (destination .exit)) r ⌝ }
+        (now (destination .entry)) (now (destination .exit)) r ⌝ }
 {
     let common = formulas::common_ir_data(calibration, emissivity, supply, ram);
     let deduction = formulas::compensation(calibration, common, compensation);
@@ -89,7 +77,6 @@ fn write_infrared<'a>(
         k_v,
         k_ta,
         destination,
-        n,
     );
     Summary {
         t_a: common.t_a,
@@ -97,7 +84,7 @@ fn write_infrared<'a>(
     }
 }
 
-// Turns the infrared numbers of pixels 0 to n - 1 into temperatures. Answers how many had none.
+// Turns the infrared numbers of the pixels into temperatures. Answers how many had none.
 fn write_temperatures(
     calibration: Calibration,
     emissivity: f32,
@@ -107,15 +94,14 @@ fn write_temperatures(
     alpha: &[f32],
     mask: &[u8],
     destination: &mut [u32],
-    n: usize,
 ) -> usize
-    requires { ⌜ («basic_range» < 8) × (n ≤ framePixels) × (n ≤ length (now destination)) × (framePixels ≤ length (now alpha)) ⌝ }
+    requires { ⌜ («basic_range» < 8) × (framePixels ≤ length (now mask)) × (framePixels ≤ length (now destination)) × (framePixels ≤ length (now alpha)) ⌝ }
     ensures { λ r. ⌜ Temperature (toCall calibration emissivity «t_a» «basic_range» reflected (now (alpha .entry)) (now (mask .entry)))
-        n (now (destination .entry)) (now (destination .exit)) r ⌝ }
+        (now (destination .entry)) (now (destination .exit)) r ⌝ }
 {
     let k_s_to = basic_k_s_to(calibration, basic_range);
     let common = formulas::common_to_data(calibration, emissivity, t_a, reflected, k_s_to);
-    pixels::temperature_pixels(common, mask, alpha, destination, n)
+    pixels::temperature_pixels(common, mask, alpha, destination)
 }
 
 // Pixels to infrared numbers, from any reading of the compensation pixel.
@@ -141,6 +127,7 @@ fn pixels_to_ir_data<'a>(
         table: shortest_of(offsets0.len(), offsets1.len(), k_v.len(), k_ta.len()),
         pixels: pixels.len(),
         destination: destination.len(),
+        mask: mask.len(),
     };
     let verdict = gates::infrared_gate(calibration, emissivity, ram, lengths);
     if let Verdict::Refused(refusal) = verdict {
@@ -160,7 +147,6 @@ fn pixels_to_ir_data<'a>(
         pixels,
         mask,
         destination,
-        pixel_count(lengths),
     );
     Frame::Done {
         t_a: floats::to_bits(summary.t_a),
@@ -195,12 +181,12 @@ fn pixels_to_temperatures<'a>(
         table: util::least(alpha.len(), table),
         pixels: pixels.len(),
         destination: destination.len(),
+        mask: mask.len(),
     };
     let verdict = gates::one_pass_gate(calibration, emissivity, ram, basic_range, lengths);
     if let Verdict::Refused(refusal) = verdict {
         return Frame::Refused(refusal);
     }
-    let n = pixel_count(lengths);
     let summary = write_infrared(
         calibration,
         emissivity,
@@ -215,7 +201,6 @@ fn pixels_to_temperatures<'a>(
         pixels,
         mask,
         destination,
-        n,
     );
     let t_a = summary.t_a;
     let lost = write_temperatures(
@@ -227,7 +212,6 @@ fn pixels_to_temperatures<'a>(
         alpha,
         mask,
         destination,
-        n,
     );
     Frame::Done {
         t_a: floats::to_bits(t_a),
@@ -293,8 +277,9 @@ pub fn raw_ir_to_temperatures(
 {
     let lengths = Lengths {
         table: alpha.len(),
-        pixels: FRAME_BYTES,
+        pixels: gates::FRAME_BYTES,
         destination: destination.len(),
+        mask: mask.len(),
     };
     let verdict = gates::temperature_gate(emissivity, basic_range, lengths);
     if let Verdict::Refused(refusal) = verdict {
@@ -309,7 +294,6 @@ pub fn raw_ir_to_temperatures(
         alpha,
         mask,
         destination,
-        pixel_count(lengths),
     );
     Frame::Done {
         t_a: floats::to_bits(t_a),

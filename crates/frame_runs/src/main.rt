@@ -192,6 +192,22 @@ fn entries(n: usize) {
     frame_case::sound_calls(b"entries", ask);
 }
 
+// Two or all three are too short: the first in this order is told.
+fn short_frame(label: &[u8], bytes: usize, entries: usize, mask_length: usize) {
+    let mut ask = frame_case::usual();
+    ask.bytes = bytes;
+    ask.entries = entries;
+    ask.mask_length = mask_length;
+    frame_case::sound_calls(label, ask);
+}
+
+fn short_frames() {
+    short_frame(b"bytes 383, entries 191, mask 192", 383, 191, 192);
+    short_frame(b"bytes 383, entries 192, mask 190", 383, 192, 190);
+    short_frame(b"bytes 384, entries 191, mask 190", 384, 191, 190);
+    short_frame(b"bytes 383, entries 191, mask 190", 383, 191, 190);
+}
+
 // The tables are numbered as a call takes them: offsets of both subpages, alpha, K_V, K_Ta.
 fn short_table(short: u8) {
     let mut ask = frame_case::usual();
@@ -220,6 +236,7 @@ fn lengths() {
     entries(191);
     entries(192);
     entries(200);
+    short_frames();
     short_table(1);
     short_table(2);
     short_table(3);
@@ -328,25 +345,30 @@ fn divisors() {
     divisor(b"PTAT denominator -1", -3104, 42.25, 0.5, 6391, -15400);
 }
 
-// ---- Two refusals at once: the lower number is told. Wrong are a short table, range 8, pixel -33 and emissivity 0
+// ---- Two refusals at once: the one that is tested first is told. Wrong are a short table, 191 entries, range 8, pixel -33 and emissivity 0
 
-fn two(label: &[u8], short: u8, range: usize, v_dd_pixel: i16, emissivity: f32) {
+fn two(label: &[u8], short: u8, entries: usize, range: usize, v_dd_pixel: i16, emissivity: f32) {
     let mut ask = frame_case::usual();
     ask.short = short;
+    ask.entries = entries;
     ask.range = range;
     ask.emissivity = emissivity;
     frame_case::all_calls(label, supplied(32736), supplying(v_dd_pixel), ask);
 }
 
 fn pairs() {
-    two(b"2 and 6", 3, 8, -32, 1.0);
-    two(b"2 and 7", 1, 1, -33, 1.0);
-    two(b"2 and 8", 3, 1, -32, 0.0);
-    two(b"6 and 7", 0, 8, -33, 1.0);
-    two(b"6 and 8", 0, 8, -32, 0.0);
-    two(b"7 and 8", 0, 1, -33, 0.0);
-    two(b"2, 6, 7 and 8", 3, 8, -33, 0.0);
-    two(b"none of them", 0, 1, -32, 1.0);
+    two(b"2 and 10", 3, 191, 1, -32, 1.0);
+    two(b"2 and 6", 3, 192, 8, -32, 1.0);
+    two(b"2 and 7", 1, 192, 1, -33, 1.0);
+    two(b"2 and 8", 3, 192, 1, -32, 0.0);
+    two(b"10 and 6", 0, 191, 8, -32, 1.0);
+    two(b"10 and 7", 0, 191, 1, -33, 1.0);
+    two(b"10 and 8", 0, 191, 1, -32, 0.0);
+    two(b"6 and 7", 0, 192, 8, -33, 1.0);
+    two(b"6 and 8", 0, 192, 8, -32, 0.0);
+    two(b"7 and 8", 0, 192, 1, -33, 0.0);
+    two(b"2, 10, 6, 7 and 8", 3, 191, 8, -33, 0.0);
+    two(b"none of them", 0, 192, 1, -32, 1.0);
 }
 
 fn main() {

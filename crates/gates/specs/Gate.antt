@@ -1,5 +1,5 @@
--- Document 01, "When the gate says stop", for the three frame calls: the tests of each, in order. Assumes nothing.
-use Prim.Native.Nat.{ℕ}
+-- Document 01, "When the gate says stop", with document 02's 10, for the three frame calls: the tests of each, in order. Assumes nothing.
+use Prim.Native.Nat.{ℕ, _*_}
 use mathlib.Core.Bool.{Bool, not, _||_}
 use mathlib.Core.List.{List, [], _∷_, _++_}
 use lib.Dec.{ltb}
@@ -9,12 +9,16 @@ use Rattle.floats.specs.Floats.{real}
 use Rattle.floats.specs.Constants.{plusZero}
 use Rattle.util.specs.Fields.{inI16}
 use Rattle.map.specs.Map.{framePixels}
-use Rattle.refusal.specs.declared.Refusal.the-variants.{ShortTable, BasicRange, SupplyRange, ZeroDivisor}
+use Rattle.refusal.specs.declared.Refusal.the-variants.{ShortTable, ShortFrame, BasicRange, SupplyRange, ZeroDivisor}
 use Rattle.refusal.specs.Order.{Test, _refuses_}
 use Rattle.calibration.specs.declared.Calibration.{Calibration}
 use Rattle.formulas.specs.declared.RamData.{RamData}
 use Rattle.formulas.specs.Frame.{deltaOf, ptatCorrectionOf, denominatorOf}
 use Rattle.gates.specs.declared.Lengths.{Lengths}
+
+-- two bytes to a pixel
+abbrev pub frameBytes : ℕ
+frameBytes = 2 * framePixels
 
 -- ---- what is tested
 
@@ -37,10 +41,13 @@ badEmissivity e = isZero e || isNan e
 
 -- ---- the tests
 
--- 2
+-- 2 and 10
 unfoldable pub lengthTests : Lengths → List Test
 lengthTests l =
     ltb (l .table) framePixels refuses ShortTable
+    ∷ ltb (l .pixels) frameBytes refuses ShortFrame (l .pixels)
+    ∷ ltb (l .destination) framePixels refuses ShortFrame (l .destination)
+    ∷ ltb (l .mask) framePixels refuses ShortFrame (l .mask)
     ∷ []
 
 -- 6

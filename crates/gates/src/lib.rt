@@ -8,11 +8,15 @@ use map::PIXELS;
 use refusal::Refusal;
 use refusal::Verdict;
 
-// How long what a frame is lent is: the shortest of its tables, its pixel bytes and its destination.
+// Two bytes to a pixel.
+pub const FRAME_BYTES: usize = 384;
+
+// How long what a frame is lent is: the shortest of its tables, its pixel bytes, its destination and its mask.
 pub struct Lengths {
     pub table: usize,
     pub pixels: usize,
     pub destination: usize,
+    pub mask: usize,
 }
 
 // Whether an emissivity stops a frame: a zero of either sign, or not a number.
@@ -52,12 +56,24 @@ fn supply_stops(calibration: Calibration, ram: RamData) -> bool
     !util::fits_i16(util::difference(ram.v_dd_pixel, calibration.v_dd_25))
 }
 
-// Refusal 2.
+// Refusals 2 and 10.
 fn length_gate(lengths: Lengths) -> Verdict
     ensures { λ r. ⌜ r ≡ firstOf (lengthTests lengths) ⌝ }
 {
     if lengths.table < PIXELS {
         return Verdict::Refused(Refusal::ShortTable);
+    }
+    if lengths.pixels < FRAME_BYTES {
+        let length = lengths.pixels;
+        return Verdict::Refused(Refusal::ShortFrame { length });
+    }
+    if lengths.destination < PIXELS {
+        let length = lengths.destination;
+        return Verdict::Refused(Refusal::ShortFrame { length });
+    }
+    if lengths.mask < PIXELS {
+        let length = lengths.mask;
+        return Verdict::Refused(Refusal::ShortFrame { length });
     }
     Verdict::Pass
 }

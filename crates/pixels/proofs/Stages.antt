@@ -14,6 +14,7 @@ use Rattle.lists.proofs.Again.{written-same, written-again}
 use Rattle.lists.proofs.Count.{count-same}
 use Rattle.lists.proofs.Written.{written-at}
 use Rattle.floats.specs.Constants.{pattern}
+use Rattle.map.specs.Map.{framePixels}
 use Rattle.formulas.specs.Pixel.{answerOf}
 use Rattle.pixels.specs.Pixels.{touched, held, infraredBits, answerBits, temperatureBits, into, lostOf}
 use Rattle.pixels.specs.Inner.{valueAt}
@@ -27,35 +28,35 @@ where-asked true a b h = h refl
 where-asked false a b h = refl
 
 -- bits that agree wherever the mask asks
-module _ (mask : List ℕ) (b c : ℕ → ℕ) (n : ℕ) (same : (k : ℕ) → k < n → touched mask k ≡ true → b k ≡ c k) where
-  pub same-lost : lostOf mask b n ≡ lostOf mask c n
-  same-lost = count-same _ _ n (λ k h. where-asked (touched mask k) _ _ (λ t. ap (λ (x : ℕ). eqb x pattern) (same k h t)))
+module _ (mask : List ℕ) (b c : ℕ → ℕ) (same : (k : ℕ) → k < framePixels → touched mask k ≡ true → b k ≡ c k) where
+  pub same-lost : lostOf mask b ≡ lostOf mask c
+  same-lost = count-same _ _ framePixels (λ k h. where-asked (touched mask k) _ _ (λ t. ap (λ (x : ℕ). eqb x pattern) (same k h t)))
 
-  pub same-into : (d : List ℕ) → into mask b n d ≡ into mask c n d
-  same-into d = written-same (touched mask) b c n d same
+  pub same-into : (d : List ℕ) → into mask b d ≡ into mask c d
+  same-into d = written-same (touched mask) b c framePixels d same
 
 -- ---- final values first, then answers
 
-module _ (mask : List ℕ) (X v : ℕ → Float) (n : ℕ) (empty : List Float) (l : n ≤ length empty) where
+module _ (mask : List ℕ) (X v : ℕ → Float) (empty : List Float) (l : framePixels ≤ length empty) where
   abbrev values : List Float
-  values = written (touched mask) X n empty
+  values = written (touched mask) X framePixels empty
 
-  pub staged : (k : ℕ) → k < n → touched mask k ≡ true → temperatureBits (valueAt values) v k ≡ temperatureBits X v k
-  staged k h t = ap (λ (x : Float). answerBits (answerOf x (v k))) (at-asked (touched mask) X n empty k nan l h t)
+  pub staged : (k : ℕ) → k < framePixels → touched mask k ≡ true → temperatureBits (valueAt values) v k ≡ temperatureBits X v k
+  staged k h t = ap (λ (x : Float). answerBits (answerOf x (v k))) (at-asked (touched mask) X framePixels empty k nan l h t)
 
 -- ---- infrared numbers first, then temperatures over them
 
-module _ (mask : List ℕ) (v : ℕ → Float) (f : (k : ℕ) → T (fits binary32 (v k))) (n : ℕ) (d : List ℕ) (l : n ≤ length d) where
-  pub held-is : (k : ℕ) → k < n → touched mask k ≡ true → held (into mask (infraredBits v) n d) k ≡ v k
-  held-is k h t = ap (ofBits binary32) (at-asked (touched mask) (infraredBits v) n d k 0 l h t) ∙ ofBits-toBits binary32 (v k) (f k)
+module _ (mask : List ℕ) (v : ℕ → Float) (f : (k : ℕ) → T (fits binary32 (v k))) (d : List ℕ) (l : framePixels ≤ length d) where
+  pub held-is : (k : ℕ) → k < framePixels → touched mask k ≡ true → held (into mask (infraredBits v) d) k ≡ v k
+  held-is k h t = ap (ofBits binary32) (at-asked (touched mask) (infraredBits v) framePixels d k 0 l h t) ∙ ofBits-toBits binary32 (v k) (f k)
 
   -- a pixel's bits hang on its own infrared number alone
   module _ (bits : Float → ℕ → ℕ) where
-    passed : (k : ℕ) → k < n → touched mask k ≡ true → bits (held (into mask (infraredBits v) n d) k) k ≡ bits (v k) k
+    passed : (k : ℕ) → k < framePixels → touched mask k ≡ true → bits (held (into mask (infraredBits v) d) k) k ≡ bits (v k) k
     passed k h t = ap (λ (x : Float). bits x k) (held-is k h t)
 
-    pub pass-lost : lostOf mask (λ (k : ℕ). bits (held (into mask (infraredBits v) n d) k) k) n ≡ lostOf mask (λ (k : ℕ). bits (v k) k) n
-    pass-lost = same-lost mask _ _ n passed
+    pub pass-lost : lostOf mask (λ (k : ℕ). bits (held (into mask (infraredBits v) d) k) k) ≡ lostOf mask (λ (k : ℕ). bits (v k) k)
+    pass-lost = same-lost mask _ _ passed
 
-    pub pass-into : into mask (λ (k : ℕ). bits (held (into mask (infraredBits v) n d) k) k) n (into mask (infraredBits v) n d) ≡ into mask (λ (k : ℕ). bits (v k) k) n d
-    pass-into = written-again (touched mask) _ _ n d ∙ same-into mask _ _ n passed d
+    pub pass-into : into mask (λ (k : ℕ). bits (held (into mask (infraredBits v) d) k) k) (into mask (infraredBits v) d) ≡ into mask (λ (k : ℕ). bits (v k) k) d
+    pass-into = written-again (touched mask) _ _ framePixels d ∙ same-into mask _ _ passed d

@@ -10,12 +10,13 @@ use Rattle.lists.specs.Count.{countBelow}
 use Rattle.floats.specs.Floats.{real}
 use Rattle.floats.specs.Constants.{pattern}
 use Rattle.util.specs.Words.{wordAt}
+use Rattle.map.specs.Map.{framePixels}
 use Rattle.util.specs.Fields.{signed}
 use Rattle.formulas.specs.declared.Pixel.{Pixel}
 use Rattle.formulas.specs.declared.Pixel.the-variants.{Temperature, Lost}
 use Rattle.formulas.specs.Pixel.{answerOf}
 
--- mask byte i belongs to pixel i: 0, or none left, means leave it
+-- mask byte i belongs to pixel i: 0 means leave it
 unfoldable pub touched : List ℕ → ℕ → Bool
 touched mask i = not (eqb (getD mask i 0) 0)
 
@@ -42,12 +43,12 @@ answerBits (Lost v) = pattern
 abbrev pub temperatureBits : (ℕ → Float) → (ℕ → Float) → ℕ → ℕ
 temperatureBits X v k = answerBits (answerOf (X k) (v k))
 
--- ---- over pixels 0 to n - 1
+-- ---- over the 192 pixels
 
 -- the destination afterwards
-abbrev pub into : List ℕ → (ℕ → ℕ) → ℕ → List ℕ → List ℕ
-into mask bits n d = written (touched mask) bits n d
+abbrev pub into : List ℕ → (ℕ → ℕ) → List ℕ → List ℕ
+into mask bits d = written (touched mask) bits framePixels d
 
 -- how many pixels were written as the pattern
-abbrev pub lostOf : List ℕ → (ℕ → ℕ) → ℕ → ℕ
-lostOf mask bits n = countBelow (λ (k : ℕ). touched mask k && eqb (bits k) pattern) n
+abbrev pub lostOf : List ℕ → (ℕ → ℕ) → ℕ
+lostOf mask bits = countBelow (λ (k : ℕ). touched mask k && eqb (bits k) pattern) framePixels

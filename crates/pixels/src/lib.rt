@@ -17,16 +17,13 @@ use offsets::Offset;
 // The bits of every not-a-number that is written.
 const PATTERN: u32 = 0x7FC0_0000;
 
-// Whether the mask asks for pixel i: no byte left is as 0.
+// Whether the mask asks for pixel i.
 fn masked(mask: &[u8], i: usize) -> bool
+    requires { ⌜ i < length (now mask) ⌝ }
     ensures { λ r. ⌜ r ≡ touched (now (mask .entry)) i ⌝ }
 {
-    if i < mask.len() {
-        let byte = mask[i];
-        byte != 0
-    } else {
-        false
-    }
+    let byte = mask[i];
+    byte != 0
 }
 
 // Pixel i's reading as a number.
@@ -64,7 +61,7 @@ fn infrared_at(
     formulas::deduct(v_ir, deduction)
 }
 
-// Pixels 0 to n - 1 as infrared numbers into the destination. Answers how many were not numbers.
+// The pixels as infrared numbers into the destination. Answers how many were not numbers.
 pub fn infrared_pixels(
     common: CommonIrData,
     deduction: Deduction,
@@ -74,15 +71,14 @@ pub fn infrared_pixels(
     k_v: &[f32],
     k_ta: &[f32],
     destination: &mut [u32],
-    n: usize,
 ) -> usize
-    requires { ⌜ (n ≤ length (now destination)) × (n * 2 ≤ length (now pixels)) ⌝ }
-    requires { ⌜ (n ≤ length (now offsets)) × (n ≤ length (now «k_v»)) × (n ≤ length (now «k_ta»)) ⌝ }
-    ensures { λ r. ⌜ r ≡ lostOf (now (mask .entry)) (infraredBits (rawAt (raw common deduction (now (pixels .entry)) (now (offsets .entry)) (now («k_v» .entry)) (now («k_ta» .entry))))) n ⌝ }
-    ensures { λ r. ⌜ now (destination .exit) ≡ into (now (mask .entry)) (infraredBits (rawAt (raw common deduction (now (pixels .entry)) (now (offsets .entry)) (now («k_v» .entry)) (now («k_ta» .entry))))) n (now (destination .entry)) ⌝ }
+    requires { ⌜ (framePixels ≤ length (now destination)) × (framePixels * 2 ≤ length (now pixels)) × (framePixels ≤ length (now mask)) ⌝ }
+    requires { ⌜ (framePixels ≤ length (now offsets)) × (framePixels ≤ length (now «k_v»)) × (framePixels ≤ length (now «k_ta»)) ⌝ }
+    ensures { λ r. ⌜ r ≡ lostOf (now (mask .entry)) (infraredBits (rawAt (raw common deduction (now (pixels .entry)) (now (offsets .entry)) (now («k_v» .entry)) (now («k_ta» .entry))))) ⌝ }
+    ensures { λ r. ⌜ now (destination .exit) ≡ into (now (mask .entry)) (infraredBits (rawAt (raw common deduction (now (pixels .entry)) (now (offsets .entry)) (now («k_v» .entry)) (now («k_ta» .entry))))) (now (destination .entry)) ⌝ }
 {
     let mut lost: usize = 0;
-    for i in 0..n {
+    for i in 0..PIXELS {
         if !masked(mask, i) {
             continue;
         }
@@ -97,19 +93,18 @@ pub fn infrared_pixels(
     lost
 }
 
-// The final values of pixels 0 to n - 1, from the infrared numbers whose bits are lent.
+// The final values of the pixels, from the infrared numbers whose bits are lent.
 fn final_values(
     common: CommonToData,
     mask: &[u8],
     alpha: &[f32],
     infrared: &[u32],
     values: &mut [f32],
-    n: usize,
 )
-    requires { ⌜ (n ≤ length (now alpha)) × (n ≤ length (now infrared)) × (n ≤ length (now values)) ⌝ }
-    ensures { λ r. ⌜ now (values .exit) ≡ written (touched (now (mask .entry))) (liftedAt common (now (alpha .entry)) (held (now (infrared .entry)))) n (now (values .entry)) ⌝ }
+    requires { ⌜ (framePixels ≤ length (now mask)) × (framePixels ≤ length (now alpha)) × (framePixels ≤ length (now infrared)) × (framePixels ≤ length (now values)) ⌝ }
+    ensures { λ r. ⌜ now (values .exit) ≡ written (touched (now (mask .entry))) (liftedAt common (now (alpha .entry)) (held (now (infrared .entry)))) framePixels (now (values .entry)) ⌝ }
 {
-    for p in 0..n {
+    for p in 0..PIXELS {
         if !masked(mask, p) {
             continue;
         }
@@ -119,14 +114,14 @@ fn final_values(
     }
 }
 
-// Pixels 0 to n - 1 of infrared numbers to temperatures, in place, from their final values. Answers how many had none.
-fn answer_pixels(mask: &[u8], values: &[f32], destination: &mut [u32], n: usize) -> usize
-    requires { ⌜ (n ≤ length (now values)) × (n ≤ length (now destination)) ⌝ }
-    ensures { λ r. ⌜ r ≡ lostOf (now (mask .entry)) (temperatureBits (valueAt (now (values .entry))) (held (now (destination .entry)))) n ⌝ }
-    ensures { λ r. ⌜ now (destination .exit) ≡ into (now (mask .entry)) (temperatureBits (valueAt (now (values .entry))) (held (now (destination .entry)))) n (now (destination .entry)) ⌝ }
+// Infrared numbers to temperatures, in place, from their final values. Answers how many had none.
+fn answer_pixels(mask: &[u8], values: &[f32], destination: &mut [u32]) -> usize
+    requires { ⌜ (framePixels ≤ length (now mask)) × (framePixels ≤ length (now values)) × (framePixels ≤ length (now destination)) ⌝ }
+    ensures { λ r. ⌜ r ≡ lostOf (now (mask .entry)) (temperatureBits (valueAt (now (values .entry))) (held (now (destination .entry)))) ⌝ }
+    ensures { λ r. ⌜ now (destination .exit) ≡ into (now (mask .entry)) (temperatureBits (valueAt (now (values .entry))) (held (now (destination .entry)))) (now (destination .entry)) ⌝ }
 {
     let mut lost: usize = 0;
-    for k in 0..n {
+    for k in 0..PIXELS {
         if !masked(mask, k) {
             continue;
         }
@@ -142,20 +137,19 @@ fn answer_pixels(mask: &[u8], values: &[f32], destination: &mut [u32], n: usize)
     lost
 }
 
-// Pixels 0 to n - 1 of infrared numbers to temperatures, in place. Answers how many had none.
+// Infrared numbers to temperatures, in place. Answers how many had none.
 // Each pixel has two roots, one inside the other: apart, many pixels are under way at once.
 pub fn temperature_pixels(
     common: CommonToData,
     mask: &[u8],
     alpha: &[f32],
     destination: &mut [u32],
-    n: usize,
 ) -> usize
-    requires { ⌜ (n ≤ framePixels) × (n ≤ length (now destination)) × (n ≤ length (now alpha)) ⌝ }
-    ensures { λ r. ⌜ r ≡ lostOf (now (mask .entry)) (temperatureBits (liftedAt common (now (alpha .entry)) (held (now (destination .entry)))) (held (now (destination .entry)))) n ⌝ }
-    ensures { λ r. ⌜ now (destination .exit) ≡ into (now (mask .entry)) (temperatureBits (liftedAt common (now (alpha .entry)) (held (now (destination .entry)))) (held (now (destination .entry)))) n (now (destination .entry)) ⌝ }
+    requires { ⌜ (framePixels ≤ length (now mask)) × (framePixels ≤ length (now destination)) × (framePixels ≤ length (now alpha)) ⌝ }
+    ensures { λ r. ⌜ r ≡ lostOf (now (mask .entry)) (temperatureBits (liftedAt common (now (alpha .entry)) (held (now (destination .entry)))) (held (now (destination .entry)))) ⌝ }
+    ensures { λ r. ⌜ now (destination .exit) ≡ into (now (mask .entry)) (temperatureBits (liftedAt common (now (alpha .entry)) (held (now (destination .entry)))) (held (now (destination .entry)))) (now (destination .entry)) ⌝ }
 {
     let mut values = [0.0f32; PIXELS];
-    final_values(common, mask, alpha, destination, &mut values, n);
-    answer_pixels(mask, &values, destination, n)
+    final_values(common, mask, alpha, destination, &mut values);
+    answer_pixels(mask, &values, destination)
 }

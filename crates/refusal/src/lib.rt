@@ -23,6 +23,8 @@ pub enum Refusal {
     DataTooLarge { data: u16 },
     // 9: nor do those of a list, at this index.
     ListedDataTooLarge { index: usize, data: u16 },
+    // 10: pixel bytes, destination or mask are too short for a frame.
+    ShortFrame { length: usize },
     // 14: the bigger camera has no such pixel.
     PixelNumber { pixel: usize },
 }
@@ -59,6 +61,7 @@ impl Refusal {
             Refusal::ZeroDivisor => said(8, 0, 0),
             Refusal::DataTooLarge { data } => said(9, data as u64, 0),
             Refusal::ListedDataTooLarge { index, data } => said(9, index as u64, data as u64),
+            Refusal::ShortFrame { length } => said(10, length as u64, 0),
             Refusal::PixelNumber { pixel } => said(14, pixel as u64, 0),
         }
     }

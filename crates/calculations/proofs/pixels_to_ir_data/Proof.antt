@@ -7,9 +7,8 @@ use native.Mathlib.Omega.{arith}
 use lib.Ieee.{Float, binary32, toBits}
 use Rattle.refusal.specs.declared.Verdict.the-variants.{Pass}
 use Rattle.map.specs.Map.{framePixels}
-use Rattle.pixels.specs.Pixels.{infraredBits, into, lostOf}
-use Rattle.calculations.specs.Frames.{IrCall, irCall, irTable, irVerdict, infraredAt}
-use Rattle.calculations.proofs.Opened.{infrared-opened}
+use Rattle.calculations.specs.Frames.{IrCall, irCall, irLengths, irVerdict}
+use Rattle.calculations.proofs.Opened.{Long, infrared-opened}
 use Rattle.calculations.proofs.Calls.{refused, done}
 use Rattle.calculations.proofs.pixels_to_ir_data.Statement.{statement}
 use Rattle.calculations.proofs.pixels_to_ir_data.Tie as tie
@@ -27,7 +26,7 @@ module _ (c : tie.After-infrared-gate) where
   unfolding irVerdict
   gated = rw (c .before .shortest-of .ensures) at (c .infrared-gate .ensures)
 
-  long : c .infrared-gate .result ≡ Pass → framePixels ≤ irTable (call start)
+  long : c .infrared-gate .result ≡ Pass → Long (irLengths (call start) (start .args .destination .now))
   unfolding irVerdict
   long e = infrared-opened _ _ _ _ (sym gated ∙ e)
 
@@ -36,22 +35,17 @@ returns c = refused (sym (gated (c .before .before .before)) ∙ c .before .verd
 
 write-infrared-requires : tie.Need-write-infrared-requires
 write-infrared-requires c κs =
-    let p = c .before .before in
-    let n = c .pixel-count .ensures in
-    ((omega arith, omega arith, omega arith), long (p .before .before) (p .enum-told .given .1))
+    let p = c .before in
+    let l = long (p .before .before) (p .enum-told .given .1) in
+    ((l .destination, omega (arith, l .pixels), l .mask), l .table)
 
 returns-2 : tie.Need-returns-2
 returns-2 c =
     let w = c .before .before .before in
-    let p = w .before .before .before in
+    let p = w .before .before in
     let g = p .before .before in
-    let f = call (start g) in
-    let d = start g .args .destination .now in
     let e = w .write-infrared .ensures in
-    let n = w .before .pixel-count .ensures in
-    done (sym (gated g) ∙ p .enum-told .given .1) (c .to-bits .ensures ∙ ap (toBits binary32) (e .ambient))
-    (e .lost ∙ ap (lostOf (f .mask) (infraredBits (infraredAt f))) n)
-    (e .destination ∙ ap (λ (m : ℕ). into (f .mask) (infraredBits (infraredAt f)) m d) n)
+    done (sym (gated g) ∙ p .enum-told .given .1) (c .to-bits .ensures ∙ ap (toBits binary32) (e .ambient)) (e .lost) (e .destination)
 
 pub pixels-to-ir-data-spec : {M : Type 1} → statement M
 pixels-to-ir-data-spec =
@@ -62,7 +56,6 @@ pixels-to-ir-data-spec =
     (λ c. search needs)
     returns
     (λ c. search needs)
-    (λ c κs. search needs)
     write-infrared-requires
     (λ c κs. search needs)
     (λ c. search needs)

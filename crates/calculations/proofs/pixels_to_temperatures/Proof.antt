@@ -8,9 +8,8 @@ use lib.ListN.{length}
 use lib.Ieee.{binary32, toBits}
 use Rattle.refusal.specs.declared.Verdict.the-variants.{Pass}
 use Rattle.map.specs.Map.{framePixels}
-use Rattle.pixels.specs.Pixels.{temperatureBits, into, lostOf}
-use Rattle.calculations.specs.Frames.{PassCall, countOf, irCall, passCall, irTable, passLengths, passVerdict, infraredAt, finalAt, onward}
-use Rattle.calculations.proofs.Opened.{one-pass-opened}
+use Rattle.calculations.specs.Frames.{PassCall, irCall, passCall, passLengths, passVerdict}
+use Rattle.calculations.proofs.Opened.{Open, one-pass-opened}
 use Rattle.calculations.proofs.Calls.{refused, done}
 use Rattle.calculations.proofs.Both.{both-lost, both-into}
 use Rattle.calculations.proofs.pixels_to_temperatures.Statement.{statement}
@@ -30,7 +29,7 @@ module _ (c : tie.After-one-pass-gate) where
   unfolding passVerdict
   gated = rw (c .before .least .ensures, c .before .before .shortest-of .ensures) at (c .one-pass-gate .ensures)
 
-  opened : c .one-pass-gate .result ≡ Pass → (framePixels ≤ min (length (start .args .alpha .now)) (irTable (call start .ir))) × (start .args .basic-range < 8)
+  opened : c .one-pass-gate .result ≡ Pass → Open (passLengths (call start) (start .args .destination .now)) (start .args .basic-range)
   unfolding passVerdict
   opened e = one-pass-opened _ _ _ _ _ (sym gated ∙ e)
 
@@ -39,34 +38,28 @@ returns c = refused (sym (gated (c .before .before .before)) ∙ c .before .verd
 
 write-infrared-requires : tie.Need-write-infrared-requires
 write-infrared-requires c κs =
-    let p = c .before .before in
-    let n = c .before .pixel-count .ensures in
-    let o = opened (p .before .before) (p .enum-told .given .1) .0 in
-    ((omega arith, omega arith, omega arith), omega arith)
+    let p = c .before in
+    let l = opened (p .before .before) (p .enum-told .given .1) .long in
+    ((l .destination, omega (arith, l .pixels), l .mask), omega (arith, l .table))
 
 write-temperatures-requires : tie.Need-write-temperatures-requires
 write-temperatures-requires c κs =
-    let m = c .before .before .before .before .before in
-    let p = m .before in
-    let n = m .pixel-count .ensures in
+    let p = c .before .before .before .before .before in
     let o = opened (p .before .before) (p .enum-told .given .1) in
-    let l = o .0 in
-    (o .1, omega arith, omega arith, omega arith)
+    let l = o .long in
+    (o .within, l .mask, omega (arith, l .destination), omega (arith, l .table))
 
 returns-2 : tie.Need-returns-2
 returns-2 c =
     let t = c .before .before .before in
     let i = t .before .before .before .before in
-    let m = i .before .before in
-    let p = m .before in
+    let p = i .before .before in
     let g = p .before .before in
     let f = call (start g) in
-    let d = start g .args .destination .now in
-    let bits = temperatureBits (finalAt (onward f) (infraredAt (f .ir))) (infraredAt (f .ir)) in
-    let n : m .pixel-count .result ≡ countOf (passLengths f d) = m .pixel-count .ensures in
-    done (sym (gated g) ∙ p .enum-told .given .1) (c .to-bits .ensures ∙ ap (toBits binary32) (i .write-infrared .ensures .ambient))
-    (both-lost f (m .pixel-count .result) (omega arith) (i .write-infrared .ensures) (t .write-temperatures .ensures) ∙ ap (lostOf (f .ir .mask) bits) n)
-    (both-into f (m .pixel-count .result) (omega arith) (i .write-infrared .ensures) (t .write-temperatures .ensures) ∙ ap (λ (k : ℕ). into (f .ir .mask) bits k d) n)
+    let e = p .enum-told .given .1 in
+    let l = opened g e .long .destination in
+    done (sym (gated g) ∙ e) (c .to-bits .ensures ∙ ap (toBits binary32) (i .write-infrared .ensures .ambient))
+    (both-lost f l (i .write-infrared .ensures) (t .write-temperatures .ensures)) (both-into f l (i .write-infrared .ensures) (t .write-temperatures .ensures))
 
 pub pixels-to-temperatures-spec : {M : Type 1} → statement M
 pixels-to-temperatures-spec =
@@ -78,7 +71,6 @@ pixels-to-temperatures-spec =
     (λ c. search needs)
     returns
     (λ c. search needs)
-    (λ c κs. search needs)
     write-infrared-requires
     write-temperatures-requires
     (λ c κs. search needs)

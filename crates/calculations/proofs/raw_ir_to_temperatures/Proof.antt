@@ -8,9 +8,8 @@ use lib.ListN.{length}
 use Rattle.refusal.specs.declared.Verdict.the-variants.{Pass}
 use Rattle.map.specs.Map.{framePixels}
 use Rattle.gates.specs.Gate.{lengthTests}
-use Rattle.pixels.specs.Pixels.{held, temperatureBits, into, lostOf}
-use Rattle.calculations.specs.Frames.{ToCall, toCall, toVerdict, finalAt}
-use Rattle.calculations.proofs.Opened.{temperature-opened}
+use Rattle.calculations.specs.Frames.{ToCall, toCall, toLengths, toVerdict}
+use Rattle.calculations.proofs.Opened.{Open, temperature-opened}
 use Rattle.calculations.proofs.Calls.{refused, done}
 use Rattle.calculations.proofs.raw_ir_to_temperatures.Statement.{statement}
 use Rattle.calculations.proofs.raw_ir_to_temperatures.Tie as tie
@@ -28,7 +27,7 @@ module _ (c : tie.After-temperature-gate) where
   unfolding toVerdict lengthTests
   gated = c .temperature-gate .ensures
 
-  opened : c .temperature-gate .result ≡ Pass → (framePixels ≤ length (start .args .alpha .now)) × (start .args .basic-range < 8)
+  opened : c .temperature-gate .result ≡ Pass → Open (toLengths (call start) (start .args .destination .now)) (start .args .basic-range)
   opened e = temperature-opened _ _ _ (sym (c .temperature-gate .ensures) ∙ e)
 
 returns : tie.Need-returns
@@ -36,23 +35,17 @@ returns c = refused (sym (gated (c .before .before .before)) ∙ c .before .verd
 
 write-temperatures-requires : tie.Need-write-temperatures-requires
 write-temperatures-requires c κs =
-    let p = c .before .before in
-    let n = c .pixel-count .ensures in
+    let p = c .before in
     let o = opened (p .before .before) (p .enum-told .given .1) in
-    (o .1, omega arith, omega arith, o .0)
+    let l = o .long in
+    (o .within, l .mask, l .destination, l .table)
 
 returns-2 : tie.Need-returns-2
 returns-2 c =
     let w = c .before .before .before in
-    let p = w .before .before .before in
+    let p = w .before .before in
     let g = p .before .before in
-    let f = call (start g) in
-    let d = start g .args .destination .now in
-    let bits = temperatureBits (finalAt f (held d)) (held d) in
-    let n = w .before .pixel-count .ensures in
-    done (sym (gated g) ∙ p .enum-told .given .1) (c .to-bits .ensures)
-    (w .write-temperatures .ensures .lost-is ∙ ap (lostOf (f .mask) bits) n)
-    (w .write-temperatures .ensures .destination ∙ ap (λ (m : ℕ). into (f .mask) bits m d) n)
+    done (sym (gated g) ∙ p .enum-told .given .1) (c .to-bits .ensures) (w .write-temperatures .ensures .lost-is) (w .write-temperatures .ensures .destination)
 
 pub raw-ir-to-temperatures-spec : {M : Type 1} → statement M
 raw-ir-to-temperatures-spec =
@@ -62,7 +55,6 @@ raw-ir-to-temperatures-spec =
     (λ c. search needs)
     returns
     (λ c. search needs)
-    (λ c κs. search needs)
     write-temperatures-requires
     (λ c κs. search needs)
     (λ c. search needs)

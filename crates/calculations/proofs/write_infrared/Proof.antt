@@ -40,7 +40,7 @@ infrared-pixels-requires c κs =
     let s = start (o .before .before) in
     let p = s .pre in
     let l = ap length (o .subpage-offsets .ensures) ∙ offsets-long (s .args .offsets0 .now) (s .args .offsets1 .now) (s .args .subpage) (omega arith) (omega arith) in
-    ((omega arith, omega arith), (omega arith, omega arith, omega arith))
+    (p .0, (omega arith, omega arith, omega arith))
 
 returns : tie.Need-returns
 returns c =
@@ -49,8 +49,8 @@ returns c =
     let a = start (o .before .before) .args in
     record {
       ambient = ap (λ (k : CommonIrData). k .«t_a») (common-is (o .before .before));
-      lost = i .infrared-pixels .ensures .0 ∙ ap (λ (v : ℕ → Float). lostOf (a .mask .now) (infraredBits v) (a .n)) (reads-is o);
-      destination = i .infrared-pixels .ensures .1 ∙ ap (λ (v : ℕ → Float). into (a .mask .now) (infraredBits v) (a .n) (a .destination .now)) (reads-is o);
+      lost = i .infrared-pixels .ensures .0 ∙ ap (λ (v : ℕ → Float). lostOf (a .mask .now) (infraredBits v)) (reads-is o);
+      destination = i .infrared-pixels .ensures .1 ∙ ap (λ (v : ℕ → Float). into (a .mask .now) (infraredBits v) (a .destination .now)) (reads-is o);
     }
 
 pub write-infrared-spec : {M : Type 1} → statement M

@@ -28,8 +28,8 @@ returns c =
     let a = start k .args in
     let v = held (a .destination .now) in
     record {
-      lost-is = t .temperature-pixels .ensures .0 ∙ ap (λ (X : ℕ → Float). lostOf (a .mask .now) (temperatureBits X v) (a .n)) (final k v);
-      destination = t .temperature-pixels .ensures .1 ∙ ap (λ (X : ℕ → Float). into (a .mask .now) (temperatureBits X v) (a .n) (a .destination .now)) (final k v);
+      lost-is = t .temperature-pixels .ensures .0 ∙ ap (λ (X : ℕ → Float). lostOf (a .mask .now) (temperatureBits X v)) (final k v);
+      destination = t .temperature-pixels .ensures .1 ∙ ap (λ (X : ℕ → Float). into (a .mask .now) (temperatureBits X v) (a .destination .now)) (final k v);
     }
 
 pub write-temperatures-spec : {M : Type 1} → statement M

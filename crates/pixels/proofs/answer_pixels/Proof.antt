@@ -9,6 +9,7 @@ use lib.ListN.{getD}
 use lib.Ieee.{binary32, ofBits}
 use Rattle.lists.proofs.Written.{written-past}
 use Rattle.formulas.specs.Pixel.{answerOf}
+use Rattle.map.specs.Map.{framePixels}
 use Rattle.pixels.specs.Pixels.{touched, held, answerBits, temperatureBits}
 use Rattle.pixels.specs.Inner.{valueAt, isLost}
 use Rattle.pixels.proofs.Lost.{answer-lost}
@@ -18,12 +19,12 @@ use Rattle.pixels.proofs.answer_pixels.Statement.{statement}
 use Rattle.pixels.proofs.answer_pixels.Tie as tie
 
 abbrev Inv-loop : tie.InvT-loop
-Inv-loop mask values destination₀ n lost₀ i₀ destination lost i =
+Inv-loop mask values destination₀ lost₀ i₀ destination lost i =
     let bits = temperatureBits (valueAt values) (held destination₀) in
-    Running (touched mask) bits (patterned bits) n destination₀ destination lost i
+    Running (touched mask) bits (patterned bits) framePixels destination₀ destination lost i
 
 abbrev μ-loop : tie.MeasureT-loop
-μ-loop mask values destination₀ n lost₀ i₀ destination lost i = n - i
+μ-loop mask values destination₀ lost₀ i₀ destination lost i = framePixels - i
 
 loop-holds : tie.Need-loop-holds Inv-loop μ-loop
 loop-holds c = steps.start _ _ _ _ _
@@ -63,7 +64,7 @@ loop-again-3 c =
 returns : tie.Need-returns Inv-loop μ-loop
 returns c =
     let r = c .before .loop .inv in
-    let e : c .before .loop .k ≡ c .before .before .before .before .before .args .n = omega arith in
+    let e : c .before .loop .k ≡ framePixels = let w = r .within in omega arith in
     (rw e at (r .count), rw e at (r .list))
 
 pub answer-pixels-spec : {M : Type 1} → statement M

@@ -7,6 +7,7 @@ use Prim.Native.Nat.{ℕ, _-_}
 use native.Mathlib.Omega.{arith}
 use lib.Ieee.{Float}
 use Rattle.formulas.specs.Inner.{liftedFinal}
+use Rattle.map.specs.Map.{framePixels}
 use Rattle.pixels.specs.Pixels.{touched, held}
 use Rattle.pixels.specs.Inner.{liftedAt}
 use Rattle.pixels.proofs.Steps as steps
@@ -15,11 +16,11 @@ use Rattle.pixels.proofs.final_values.Statement.{statement}
 use Rattle.pixels.proofs.final_values.Tie as tie
 
 abbrev Inv-loop : tie.InvT-loop
-Inv-loop common mask alpha infrared values₀ n p₀ values p =
-    Running (touched mask) (liftedAt common alpha (held infrared)) (λ (k : ℕ). false) n values₀ values 0 p
+Inv-loop common mask alpha infrared values₀ p₀ values p =
+    Running (touched mask) (liftedAt common alpha (held infrared)) (λ (k : ℕ). false) framePixels values₀ values 0 p
 
 abbrev μ-loop : tie.MeasureT-loop
-μ-loop common mask alpha infrared values₀ n p₀ values p = n - p
+μ-loop common mask alpha infrared values₀ p₀ values p = framePixels - p
 
 loop-holds : tie.Need-loop-holds Inv-loop μ-loop
 loop-holds c = steps.start _ _ _ _ _
@@ -43,7 +44,7 @@ loop-again-2 c =
 returns : tie.Need-returns Inv-loop μ-loop
 returns c =
     let r = c .before .loop .inv in
-    let e : c .before .loop .p ≡ c .before .before .before .before .before .before .args .n = omega arith in
+    let e : c .before .loop .p ≡ framePixels = let w = r .within in omega arith in
     rw e at (r .list)
 
 pub final-values-spec : {M : Type 1} → statement M

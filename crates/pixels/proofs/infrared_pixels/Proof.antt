@@ -7,6 +7,7 @@ use Prim.Native.Nat.{ℕ, _-_}
 use native.Mathlib.Omega.{arith}
 use lib.Ieee.{binary32, toBits, isNan}
 use Rattle.floats.proofs.Nan.{is-nan, differs, agrees, nan-bits}
+use Rattle.map.specs.Map.{framePixels}
 use Rattle.pixels.specs.Pixels.{touched, infraredBits}
 use Rattle.pixels.specs.Inner.{raw, rawAt}
 use Rattle.pixels.proofs.Lost.{raw-lost}
@@ -16,12 +17,12 @@ use Rattle.pixels.proofs.infrared_pixels.Statement.{statement}
 use Rattle.pixels.proofs.infrared_pixels.Tie as tie
 
 abbrev Inv-loop : tie.InvT-loop
-Inv-loop common deduction mask pixels offsets k-v k-ta destination₀ n lost₀ i₀ destination lost i =
+Inv-loop common deduction mask pixels offsets k-v k-ta destination₀ lost₀ i₀ destination lost i =
     let f = raw common deduction pixels offsets k-v k-ta in
-    Running (touched mask) (infraredBits (rawAt f)) (patterned (infraredBits (rawAt f))) n destination₀ destination lost i
+    Running (touched mask) (infraredBits (rawAt f)) (patterned (infraredBits (rawAt f))) framePixels destination₀ destination lost i
 
 abbrev μ-loop : tie.MeasureT-loop
-μ-loop common deduction mask pixels offsets k-v k-ta destination₀ n lost₀ i₀ destination lost i = n - i
+μ-loop common deduction mask pixels offsets k-v k-ta destination₀ lost₀ i₀ destination lost i = framePixels - i
 
 loop-holds : tie.Need-loop-holds Inv-loop μ-loop
 loop-holds c = steps.start _ _ _ _ _
@@ -57,7 +58,7 @@ loop-again-3 c =
 returns : tie.Need-returns Inv-loop μ-loop
 returns c =
     let r = c .before .loop .inv in
-    let e : c .before .loop .i ≡ c .before .before .before .before .before .before .before .args .n = omega arith in
+    let e : c .before .loop .i ≡ framePixels = let w = r .within in omega arith in
     (rw e at (r .count), rw e at (r .list))
 
 pub infrared-pixels-spec : {M : Type 1} → statement M

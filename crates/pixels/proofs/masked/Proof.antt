@@ -1,8 +1,6 @@
--- `pixels::masked` meets its contract: past the mask's end there is 0. Assumes nothing.
+-- `pixels::masked` meets its contract: the mask's byte is the pixel's. Assumes nothing.
 use borrow.Author.Needs.{needs}
 use mathlib.Core.Path.{refl}
-use Prim.Native.Nat.{ℕ}
-use lib.ListN.{List·getD-eq-default}
 use Rattle.pixels.specs.Pixels.{touched}
 use Rattle.pixels.proofs.masked.Statement.{statement}
 use Rattle.pixels.proofs.masked.Tie as tie
@@ -11,9 +9,5 @@ returns : tie.Need-returns
 unfolding touched
 returns c = refl
 
-returns-2 : tie.Need-returns-2
-unfolding touched
-returns-2 c = rw (List·getD-eq-default {A = ℕ} _ 0 (c .if1 .left))
-
 pub masked-spec : {M : Type 1} → statement M
-masked-spec = tie.close (tie.spec (λ c. search needs) returns returns-2)
+masked-spec = tie.close (tie.spec (λ c. search needs) returns)

@@ -19,11 +19,11 @@ returns c =
     let d = a .destination .now in
     let X = liftedAt (a .common) (a .alpha .now) (held d) in (
       e .answer-pixels .ensures .0
-          ∙ ap (λ (w : List Float). lostOf mask (temperatureBits (valueAt w) (held d)) (a .n)) (f .final-values .ensures)
-          ∙ same-lost mask _ _ (a .n) (staged mask X (held d) (a .n) _ (omega arith)),
+          ∙ ap (λ (w : List Float). lostOf mask (temperatureBits (valueAt w) (held d))) (f .final-values .ensures)
+          ∙ same-lost mask _ _ (staged mask X (held d) _ (omega arith)),
       e .answer-pixels .ensures .1
-          ∙ ap (λ (w : List Float). into mask (temperatureBits (valueAt w) (held d)) (a .n) d) (f .final-values .ensures)
-          ∙ same-into mask _ _ (a .n) (staged mask X (held d) (a .n) _ (omega arith)) d,
+          ∙ ap (λ (w : List Float). into mask (temperatureBits (valueAt w) (held d)) d) (f .final-values .ensures)
+          ∙ same-into mask _ _ (staged mask X (held d) _ (omega arith)) d,
     )
 
 pub temperature-pixels-spec : {M : Type 1} → statement M
