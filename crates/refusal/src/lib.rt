@@ -25,6 +25,8 @@ pub enum Refusal {
     ListedDataTooLarge { index: usize, data: u16 },
     // 10: pixel bytes, destination or mask are too short for a frame.
     ShortFrame { length: usize },
+    // 11: the wanted image has another unchecked word than the present one.
+    UncheckedWord { word: usize },
     // 14: the bigger camera has no such pixel.
     PixelNumber { pixel: usize },
 }
@@ -62,6 +64,7 @@ impl Refusal {
             Refusal::DataTooLarge { data } => said(9, data as u64, 0),
             Refusal::ListedDataTooLarge { index, data } => said(9, index as u64, data as u64),
             Refusal::ShortFrame { length } => said(10, length as u64, 0),
+            Refusal::UncheckedWord { word } => said(11, word as u64, 0),
             Refusal::PixelNumber { pixel } => said(14, pixel as u64, 0),
         }
     }
