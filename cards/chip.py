@@ -154,3 +154,27 @@ def k_v(image, pixel):
 def alpha_cp(image):
     w = data_of(image)
     return over(w[45], w[46])
+
+
+# ---- A burn
+
+def burn(present, wanted):
+    """Document 02, CR 7: number, place and value of the refusal, and the steps, each a word and what it becomes."""
+    for image in present, wanted:
+        if len(image) < BYTES:
+            return (1, len(image), 0), []
+    old, new = words_of(present), words_of(wanted)
+    differing = [k for k in range(WORDS) if old[k] != new[k]]
+    for k in differing:
+        if not is_checked(k):
+            return (11, k, 0), []
+    steps = []
+    for k in differing:
+        steps += [(k, 0)] if old[k] else []
+        steps += [(k, new[k])] if new[k] else []
+    return (0, 0, 0), steps
+
+
+def stepped(image, step):
+    word, value = step
+    return image[:2 * word] + value.to_bytes(2, "big") + image[2 * word + 2:]
