@@ -18,6 +18,7 @@
  *      an entry of a list to write is above 2047             place: its index, value: the data
  *  10  pixel bytes below 384, destination below 192 or mask   place: its length
  *      below 192; tested after 2 and before 6
+ *  11  the wanted image has another unchecked word           place: the word's number
  *  14  the MLX90640 has no such pixel: 768 or more           place: the pixel
  *
  * Pixels are floats lent as their bits, uint32_t: the same size and alignment as float. Every not-a-number that a call writes is 0x7FC00000. */
@@ -80,6 +81,14 @@ typedef struct {
     uint64_t number, place, value;
 } loamchalice_outcome;
 
+/* A step of a burn. Look at `reached` and not at whether the card loads: a half-burnt card may load, since zero is a chip word. */
+typedef struct {
+    uint64_t number, place, value;
+    size_t word;     /* the step's word; LOAMCHALICE_WORDS where there is no step */
+    uint16_t bits;   /* what the word becomes */
+    uint8_t reached; /* 1 if the present image is the wanted one: with none left to do, or after the step; else 0 */
+} loamchalice_step;
+
 /* The chip word of 11 bits of data. Refusal 9. */
 loamchalice_word loamchalice_encode(uint16_t data);
 
@@ -110,6 +119,14 @@ loamchalice_part loamchalice_alpha_row(const uint8_t *image, size_t image_length
 /* Where the offsets of a subpage stand in its own table: its first 192, or none if it is shorter. Subpage 0 is the first table, any other
  * number the second. Refuses nothing. */
 loamchalice_part loamchalice_subpage_offsets(const int32_t *zero, size_t zero_length, const int32_t *one, size_t one_length, uint8_t subpage);
+
+/* The next step from a present image to a wanted one: the first word that differs becomes zero, or, where it is zero, what is wanted. Refusals 1
+ * (the present image is looked at first) and 11. */
+loamchalice_step loamchalice_next_step(const uint8_t *present, size_t present_length, const uint8_t *wanted, size_t wanted_length);
+
+/* Does that step on the present image, both bytes of the word. At most 1,628 calls reach the wanted image; a burn that was cut goes on from what is
+ * found. Bytes past 1,664 stay. Refusals as above. */
+loamchalice_step loamchalice_burn(uint8_t *present, size_t present_length, const uint8_t *wanted, size_t wanted_length);
 
 /* Pixels, two bytes each and the upper first, to infrared numbers. Mask byte i belongs to pixel i: 0 leaves it.
  * 384 pixel bytes, 192 mask bytes and 192 entries are taken; what follows them is not read and stays. Refusals 2, 10, 7, 8. */

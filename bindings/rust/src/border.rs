@@ -117,11 +117,23 @@ pub struct Outcome {
     pub value: u64,
 }
 
+#[repr(C)]
+#[derive(Clone, Copy, Debug)]
+pub struct Step {
+    pub number: u64,
+    pub place: u64,
+    pub value: u64,
+    pub word: usize,
+    pub bits: u16,
+    pub reached: u8,
+}
+
 // What the archive hands over, on a processor of 64 bits.
 const _: () = {
     use std::mem::size_of;
     assert!(size_of::<Word>() == 32 && size_of::<Part>() == 16 && size_of::<Record>() == 100);
     assert!(size_of::<Load>() == 144 && size_of::<Ram>() == 10 && size_of::<Answer>() == 40 && size_of::<Outcome>() == 24);
+    assert!(size_of::<Step>() == 40);
     assert!(size_of::<SixTen>() == 4 && size_of::<Unsigned>() == 4 && size_of::<Signed>() == 4);
     assert!(size_of::<AccessPattern>() == 36 && size_of::<PixelEntry>() == 32);
 };
@@ -139,6 +151,8 @@ extern "C" {
     ) -> Outcome;
     fn loamchalice_alpha_row(image: *const u8, length: usize, row: usize) -> Part;
     fn loamchalice_subpage_offsets(zero: *const i32, zero_length: usize, one: *const i32, one_length: usize, subpage: u8) -> Part;
+    fn loamchalice_next_step(present: *const u8, present_length: usize, wanted: *const u8, wanted_length: usize) -> Step;
+    fn loamchalice_burn(present: *mut u8, present_length: usize, wanted: *const u8, wanted_length: usize) -> Step;
     fn loamchalice_load(
         image: *const u8, length: usize, offsets0: *mut i32, offsets0_length: usize, offsets1: *mut i32, offsets1_length: usize,
         alpha: *mut f32, alpha_length: usize, k_v: *mut f32, k_v_length: usize, k_ta: *mut f32, k_ta_length: usize,
@@ -217,6 +231,14 @@ pub fn alpha_row(image: &[u8], row: usize) -> Part {
 
 pub fn subpage_offsets([zero, one]: [&[i32]; 2], subpage: u8) -> Part {
     unsafe { loamchalice_subpage_offsets(zero.as_ptr(), zero.len(), one.as_ptr(), one.len(), subpage) }
+}
+
+pub fn next_step(present: &[u8], wanted: &[u8]) -> Step {
+    unsafe { loamchalice_next_step(present.as_ptr(), present.len(), wanted.as_ptr(), wanted.len()) }
+}
+
+pub fn burn(present: &mut [u8], wanted: &[u8]) -> Step {
+    unsafe { loamchalice_burn(present.as_mut_ptr(), present.len(), wanted.as_ptr(), wanted.len()) }
 }
 
 pub fn load(image: &[u8], [zero, one]: [&mut [i32]; 2], alpha: &mut [f32], k_v: &mut [f32], k_ta: &mut [f32]) -> Load {

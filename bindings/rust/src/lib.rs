@@ -16,10 +16,12 @@
 //! # Ok::<(), loamchalice::Refusal>(())
 //! ```
 mod border;
+mod burning;
 mod card;
 pub mod mlx90640;
 mod refusal;
 
+pub use burning::{burn, next_step, Burnt, Step};
 pub use card::Card;
 pub use refusal::Refusal;
 

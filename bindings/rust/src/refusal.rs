@@ -24,6 +24,8 @@ pub enum Refusal {
     ListedDataTooLarge { index: usize, data: u16 },
     /// 10: pixel bytes, destination or mask are too short for a frame. Arrays of 384, 192 and 192 never are.
     ShortFrame { length: usize },
+    /// 11: the wanted image has another unchecked word than the present one.
+    UncheckedWord { word: usize },
     /// 14: the pixel number is 768 or more, which the MLX90640 does not have.
     PixelNumber { pixel: usize },
 }
@@ -44,12 +46,13 @@ impl Refusal {
             9 if value == 0 => Refusal::DataTooLarge { data: place as u16 },
             9 => Refusal::ListedDataTooLarge { index: at, data: value as u16 },
             10 => Refusal::ShortFrame { length: at },
+            11 => Refusal::UncheckedWord { word: at },
             14 => Refusal::PixelNumber { pixel: at },
             _ => unreachable!("the library has no such refusal"),
         })
     }
 
-    /// 1 to 4, 6 to 10, or 14; 5 is no longer used.
+    /// 1 to 4, 6 to 11, or 14; 5 is no longer used.
     pub fn number(self) -> u64 {
         match self {
             Refusal::ShortImage { .. } => 1,
@@ -61,6 +64,7 @@ impl Refusal {
             Refusal::ZeroDivisor => 8,
             Refusal::DataTooLarge { .. } | Refusal::ListedDataTooLarge { .. } => 9,
             Refusal::ShortFrame { .. } => 10,
+            Refusal::UncheckedWord { .. } => 11,
             Refusal::PixelNumber { .. } => 14,
         }
     }
@@ -69,7 +73,7 @@ impl Refusal {
     pub fn place(self) -> u64 {
         match self {
             Refusal::ShortImage { length } => length as u64,
-            Refusal::DamagedWord { word, .. } => word as u64,
+            Refusal::DamagedWord { word, .. } | Refusal::UncheckedWord { word } => word as u64,
             Refusal::OffsetScale { scale } => scale.into(),
             Refusal::BasicRange { range } => range as u64,
             Refusal::DataTooLarge { data } => data.into(),
@@ -104,6 +108,7 @@ impl fmt::Display for Refusal {
             Refusal::DataTooLarge { data } => write!(f, "{data} is above 2047"),
             Refusal::ListedDataTooLarge { index, data } => write!(f, "entry {index} of the data is {data}, above 2047"),
             Refusal::ShortFrame { length } => write!(f, "{length} is too short for a frame's pixel bytes, destination or mask"),
+            Refusal::UncheckedWord { word } => write!(f, "unchecked word {word} is another in the wanted image"),
             Refusal::PixelNumber { pixel } => write!(f, "there is no pixel {pixel}, only 0 to 767"),
         }
     }

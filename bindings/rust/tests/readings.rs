@@ -1,5 +1,5 @@
 //! Readings of document 01 through the binding.
-use loamchalice::{Calibration, Card, RamData, Refusal, Settings, Subpage, ALL_PIXELS};
+use loamchalice::{burn, next_step, Burnt, Calibration, Card, RamData, Refusal, Settings, Subpage, ALL_PIXELS};
 
 const SOUND: &[u8] = include_bytes!("../../../cards/sound.bin");
 const ROOM: RamData = RamData { t_a_v_be: 19442, t_a_ptat: 1711, v_dd_pixel: -13115, gain: 6391, compensation_pixel: -105 };
@@ -131,4 +131,19 @@ fn a_changed_word_is_loaded() {
     let refused = card.write().unwrap_err();
     assert_eq!((refused.number(), refused.place(), refused.value()), (9, 813, 2048));
     assert_eq!(refused.to_string(), "refusal 9: entry 813 of the data is 2048, above 2047");
+}
+
+#[test]
+fn burns_are_refused_and_change_nothing() {
+    let told = |r: Refusal| (r.number(), r.place(), r.value());
+    let mut card = SOUND.to_vec();
+    let mut wanted = SOUND.to_vec();
+    wanted[2 * 20] ^= 1;
+    wanted[2 * 19 + 1] ^= 1;
+    wanted[2 * 16] ^= 1;
+    assert_eq!(burn(&mut card, &wanted).map_err(told), Err((11, 19, 0)));
+    assert_eq!(next_step(&card, &wanted[..1663]).map_err(told), Err((1, 1663, 0)));
+    assert_eq!(burn(&mut card[..7], &wanted[..1663]).map_err(told), Err((1, 7, 0)));
+    assert_eq!(card, SOUND);
+    assert_eq!(burn(&mut card, SOUND), Ok(Burnt { step: None, reached: true }));
 }

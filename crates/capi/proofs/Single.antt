@@ -7,8 +7,12 @@ use Rattle.eeprom.proofs.Single.{single}
 use Rattle.calculations.specs.declared.Frame.{Frame}
 use Rattle.calculations.specs.Frames.{IrCall, ToCall, PassCall, Infrareds, Temperatures, Passes}
 use Rattle.calculations.proofs.Single.{single-infrared, single-temperatures, single-pass}
+use Rattle.burn.specs.declared.Burnt.{Burnt}
+use Rattle.burn.proofs.Single as burn
+use Rattle.capi.specs.declared.burning.Burn.{Burn}
 use Rattle.capi.specs.declared.Answer.{Answer}
 use Rattle.capi.specs.declared.Load.{Load}
+use Rattle.capi.specs.Burning.{flagOf, burningOut, Burning}
 use Rattle.capi.specs.Border.{loadedOut, frameOut, Loading, Carried}
 
 pub single-loading : {image : List ℕ} {before x y : Tables} {r q : Load} → Loading image before x r → Loading image before y q → (r ≡ q) × (x ≡ y)
@@ -37,3 +41,8 @@ single-pass-out f d x y r q p s = (
   carried (Passes f d x) (Passes f d y) (λ a b m n. single-pass f d x y a b m n .0) p s,
   single-pass f d x y _ _ (p .kept) (s .kept) .1,
 )
+
+pub single-burning : {present wanted x y : List ℕ} {r q : Burn} → Burning present wanted x r → Burning present wanted y q → (r ≡ q) × (x ≡ y)
+single-burning p s =
+    let e = burn.single (p .burns) (s .burns) in
+    (p .out ∙ ap (λ (b : Burnt). burningOut (b .step) (flagOf (b .reached))) (e .0) ∙ sym (s .out), e .1)

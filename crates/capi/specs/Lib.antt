@@ -1,3 +1,4 @@
 -- What crosses to C.
 pub mod Border
 pub mod Bigger
+pub mod Burning

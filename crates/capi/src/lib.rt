@@ -1,4 +1,6 @@
 // The calls for C and Rust: each hands its arguments on and promises what the inner call does.
+mod burning;
+
 ghost use mathlib.Core.Path.{_≡_};
 ghost use lib.Ieee.{binary32, toBits};
 ghost use lib.ListN.{take, drop};
