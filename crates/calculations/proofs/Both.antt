@@ -9,16 +9,13 @@ use Rattle.formulas.specs.Pixel.{reflectedOf, tArOf, sensitivityOf, finalOf, an
 use Rattle.pixels.specs.Pixels.{held, answerBits, temperatureBits, into, lostOf}
 use Rattle.pixels.proofs.Stages.{pass-lost, pass-into}
 use Rattle.calculations.specs.declared.Summary.{Summary}
-use Rattle.calculations.specs.Frames.{ToCall, PassCall, toCall, onward, infraredAt, finalAt}
+use Rattle.calculations.specs.Frames.{PassCall, onward, infraredAt, finalAt}
+use Rattle.calculations.specs.OneOrTwo.{second}
 use Rattle.calculations.specs.Inner.{Infrared, Temperature}
 use Rattle.calculations.proofs.Calls.{infrared-fits}
 
--- a call from infrared to temperature, with the settings of a pass and any ambient temperature
-abbrev pub onwardAt : PassCall → Float → ToCall
-onwardAt f tA = toCall (f .ir .calibration) (f .ir .emissivity) tA (f .range) (f .reflected) (f .alpha) (f .ir .mask)
-
 module _ (f : PassCall) {d d₁ d₂ : List ℕ} {r : Summary} {lost : ℕ} (l : framePixels ≤ length d)
-    (i : Infrared (f .ir) d d₁ r) (t : Temperature (onwardAt f (r .«t_a»)) d₁ d₂ lost) where
+    (i : Infrared (f .ir) d d₁ r) (t : Temperature (second f (r .«t_a»)) d₁ d₂ lost) where
   abbrev bits : Float → ℕ → ℕ
   bits x k =
       let g = onward f in
@@ -26,7 +23,7 @@ module _ (f : PassCall) {d d₁ d₂ : List ℕ} {r : Summary} {lost : ℕ} (l :
       (sensitivityOf (g .calibration) (g .ambient) (getD (g .alpha) k nan)) x) x)
 
   abbrev staged-bits : Float → List ℕ → ℕ → ℕ
-  staged-bits tA w = temperatureBits (finalAt (onwardAt f tA) (held w)) (held w)
+  staged-bits tA w = temperatureBits (finalAt (second f tA) (held w)) (held w)
 
   pub both-lost : lost ≡ lostOf (f .ir .mask) (temperatureBits (finalAt (onward f) (infraredAt (f .ir))) (infraredAt (f .ir)))
   unfolding finalAt

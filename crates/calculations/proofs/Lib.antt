@@ -1,6 +1,7 @@
--- Single and Demand are the laws that callers cite; the others lead to the code.
+-- Single, Demand and OneOrTwo are the laws that callers cite; the others lead to the code.
 mod Opened
 mod Calls
 mod Both
 pub mod Single
 pub mod Demand
+pub mod OneOrTwo

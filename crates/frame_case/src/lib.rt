@@ -458,3 +458,126 @@ pub fn all_calls(label: &[u8], calibration: Calibration, ram: RamData, ask: Ask)
 pub fn sound_calls(label: &[u8], ask: Ask) {
     all_calls(label, sound(), room(), ask);
 }
+
+// ---- One pass or two calls
+
+// Infrared numbers to temperatures, with the ambient temperature that the infrared call answered; where that was refused nothing is called.
+fn onward(
+    first: Frame,
+    calibration: Calibration,
+    ask: Ask,
+    alpha: &[f32; 200],
+    mask: &[u8; 200],
+    destination: &mut [u32; 200],
+) -> Frame {
+    let Frame::Done { t_a, lost } = first else {
+        return first;
+    };
+    let mut next = ask;
+    next.t_a = floats::from_bits(t_a);
+    temperatures_of(calibration, next, alpha, mask, destination)
+}
+
+fn alike(one: &[u32; 200], two: &[u32; 200]) -> u64 {
+    let mut n: u64 = 0;
+    for i in 0..200usize {
+        if one[i] == two[i] {
+            n = std::num::wrapping_add_u64(n, 1);
+        }
+    }
+    n
+}
+
+fn one_call<'a>(
+    calibration: Calibration,
+    ram: RamData,
+    ask: Ask,
+    offsets0: &'a [Offset; 200],
+    offsets1: &'a [Offset; 200],
+    alpha: &[f32; 200],
+    k_v: &[f32; 200],
+    k_ta: &[f32; 200],
+    destination: &mut [u32; 200],
+) -> Frame {
+    let pixels = readings();
+    let mask = mask_of(ask);
+    pass_of(
+        calibration,
+        ram,
+        ask,
+        offsets0,
+        offsets1,
+        alpha,
+        k_v,
+        k_ta,
+        &pixels,
+        &mask,
+        destination,
+    )
+}
+
+fn first_call<'a>(
+    calibration: Calibration,
+    ram: RamData,
+    ask: Ask,
+    offsets0: &'a [Offset; 200],
+    offsets1: &'a [Offset; 200],
+    k_v: &[f32; 200],
+    k_ta: &[f32; 200],
+    destination: &mut [u32; 200],
+) -> Frame {
+    let pixels = readings();
+    let mask = mask_of(ask);
+    infrared_of(
+        calibration,
+        ram,
+        ask,
+        offsets0,
+        offsets1,
+        k_v,
+        k_ta,
+        &pixels,
+        &mask,
+        destination,
+    )
+}
+
+// One pass and the two calls, a line each, and then how many of the 200 entries they leave alike.
+pub fn both_ways(label: &[u8], calibration: Calibration, ram: RamData, ask: Ask) {
+    let offsets0 = offsets_0();
+    let offsets1 = offsets_1();
+    let alpha = alphas();
+    let k_v = k_vs();
+    let k_ta = k_tas();
+    let mask = mask_of(ask);
+    let mut one = before(ask);
+    let pass = one_call(
+        calibration,
+        ram,
+        ask,
+        &offsets0,
+        &offsets1,
+        &alpha,
+        &k_v,
+        &k_ta,
+        &mut one,
+    );
+    line(b"one pass, ", label, ask, pass, &one);
+    let mut two = before(ask);
+    let first = first_call(
+        calibration,
+        ram,
+        ask,
+        &offsets0,
+        &offsets1,
+        &k_v,
+        &k_ta,
+        &mut two,
+    );
+    let last = onward(first, calibration, ask, &alpha, &mask, &mut two);
+    line(b"two calls, ", label, ask, last, &two);
+    io::write_all(STDOUT_FILENO, b"entries alike, ");
+    io::write_all(STDOUT_FILENO, label);
+    tab_number(alike(&one, &two));
+    io::write_all(STDOUT_FILENO, b"\n");
+}

@@ -371,6 +371,25 @@ fn pairs() {
     two(b"none of them", 0, 192, 1, -32, 1.0);
 }
 
+// ---- One pass or two calls: the same picture. Where the second call refuses, infrared numbers stand, and one pass has written nothing
+
+fn both(label: &[u8], subpage: u8, range: usize, emissivity: f32, mask_first: u8) {
+    let mut ask = frame_case::usual();
+    ask.subpage = subpage;
+    ask.range = range;
+    ask.emissivity = emissivity;
+    ask.mask_first = mask_first;
+    frame_case::both_ways(label, frame_case::sound(), frame_case::room(), ask);
+}
+
+fn both_ways() {
+    both(b"both ways", 0, 1, 0.9375, 1);
+    both(b"both ways, subpage 1", 1, 3, 1.0, 1);
+    both(b"both ways, mask 0, 1", 0, 0, 0.5, 0);
+    both(b"both ways, range 8", 0, 8, 1.0, 1);
+    both(b"both ways, emissivity 0", 0, 8, 0.0, 1);
+}
+
 fn main() {
     usual_frames();
     gradients();
@@ -384,4 +403,5 @@ fn main() {
     emissivities();
     divisors();
     pairs();
+    both_ways();
 }
