@@ -1,14 +1,15 @@
 -- `capi::loamchalice_encode` meets its contract, for each case of the inner answer. Assumes nothing.
 use borrow.Author.Needs.{needs}
-use mathlib.Core.Path.{refl, sym}
+use mathlib.Core.Path.{sym, ap, _∙_}
+use Rattle.capi.specs.Border.{encodedOut}
 use Rattle.capi.proofs.loamchalice_encode.Statement.{statement}
 use Rattle.capi.proofs.loamchalice_encode.Tie as tie
 
 returns : tie.Need-returns
-returns c = rw (c .good-word .ensures, sym (c .before .before .before .before .encode .ensures), c .before .before .answer .given .1) refl
+returns c = c .good-word .ensures ∙ sym (ap encodedOut (sym (c .before .before .before .before .encode .ensures) ∙ c .before .before .answer .given .1))
 
 returns-2 : tie.Need-returns-2
-returns-2 c = rw (c .refused-word .ensures, sym (c .before .before .before .before .encode .ensures), c .before .before .answer2 .given .1) refl
+returns-2 c = c .refused-word .ensures ∙ sym (ap encodedOut (sym (c .before .before .before .before .encode .ensures) ∙ c .before .before .answer2 .given .1))
 
 pub loamchalice-encode-spec : {M : Type 1} → statement M
 loamchalice-encode-spec =
