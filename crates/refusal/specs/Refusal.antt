@@ -1,4 +1,4 @@
--- Document 01, "When the gate says stop": number, place and value of each refusal, row by row. Assumes nothing.
+-- Document 01, "When the gate says stop", and the refusals of document 02: number, place and value of each, row by row. Assumes nothing.
 use Prim.Native.Nat.{ℕ}
 use Rattle.refusal.specs.declared.Told.{Told}
 use Rattle.refusal.specs.declared.Refusal.{Refusal}
