@@ -13,16 +13,12 @@ use Rattle.lists.specs.Written.{filled}
 use Rattle.lists.proofs.First.{is-first}
 use Rattle.lists.proofs.Written.{written-at, length-written}
 use Rattle.util.specs.Words.{wordAt}
-use Rattle.hamming.specs.Word.{Said, says, damaged, dataValues, isSaid, decoded, saidData}
+use Rattle.hamming.specs.Word.{Said, says, dataValues, isSaid, decoded, saidData}
 use Rattle.hamming.proofs.Answers as answers
 use Rattle.map.specs.Map.{cardWords, checked}
 use Rattle.map.proofs.Spans.{unchecked-past}
 use Rattle.card.specs.Card.{readAt, dataAt, damagedAt, firstDamaged}
 use Rattle.card.specs.Inner.{at}
-
-pub is-damaged : (image : List ℕ) (word : ℕ) → readAt image word ≡ damaged → damagedAt image word ≡ true
-unfolding damagedAt
-is-damaged image word e = ap (λ (s : Said). not (isSaid s)) e
 
 -- what a word says: that it is not damaged, and its data
 module _ (image : List ℕ) (word d : ℕ) (e : readAt image word ≡ says d) where

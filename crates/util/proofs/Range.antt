@@ -27,10 +27,6 @@ unfolding inI16
 by-top (pos n) e = sym (leb·suc-suc n 32767)
 by-top (negsuc n) e = let h = ltb-false 32767 n e in sym (lt-ltb n 32768 (omega arith))
 
-pub in-range : (z : ℤ) → inI16 z ≡ true → mag z < 32768
-unfolding inI16
-in-range z e = ltb-true (mag z) 32768 e
-
 -- ---- sums and differences
 
 by-test : (t : Bool) (m n b : ℕ) → m ≤ b → n ≤ b → mag (cond t (negsuc m) (pos n)) ≤ b
