@@ -1,6 +1,6 @@
 /* Loads a card and prints a frame's temperatures, twelve rows of sixteen.
- *   tools/native capi target/libcapi.a
- *   cc -o target/example bindings/c/example.c target/libcapi.a
+ *   tools/archive target/libloamchalice.a
+ *   cc -o target/example bindings/c/example.c target/libloamchalice.a
  *   target/example cards/sound.bin */
 #include "loamchalice.h"
 #include <stdio.h>

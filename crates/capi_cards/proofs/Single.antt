@@ -2,11 +2,19 @@
 use Prim.Native.Nat.{ℕ}
 use mathlib.Core.Path.{_≡_, ap, sym, _∙_}
 use mathlib.Core.List.{List}
+use Rattle.eeprom.specs.Load.{Tables}
+use Rattle.eeprom.proofs.Single as eeprom
 use Rattle.listing.specs.Index.{Lists}
 use Rattle.listing.proofs.Single as listing
 use Rattle.writer.proofs.Single as writer
+use Rattle.capi_cards.specs.declared.Load.{Load}
 use Rattle.capi_cards.specs.declared.Outcome.{Outcome}
-use Rattle.capi_cards.specs.Border.{outcomeOf, Writing, Reading}
+use Rattle.capi_cards.specs.Border.{loadedOut, outcomeOf, Loading, Writing, Reading}
+
+pub single-loading : {image : List ℕ} {before x y : Tables} {r q : Load} → Loading image before x r → Loading image before y q → (r ≡ q) × (x ≡ y)
+single-loading p s =
+    let e = eeprom.single (p .loads) (s .loads) in
+    (p .out ∙ ap loadedOut (e .0) ∙ sym (s .out), e .1)
 
 pub single-writing : {from : Lists} {before x y : List ℕ} {r q : Outcome} → Writing from before x r → Writing from before y q → (r ≡ q) × (x ≡ y)
 single-writing p s =

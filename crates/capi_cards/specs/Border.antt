@@ -1,13 +1,39 @@
--- The answers of the inner calls as C has them: refusals by number, place and value. Assumes nothing.
-use Prim.Native.Nat.{ℕ}
+-- The answers about cards as C has them: refusals by number, place and value, a part as a place and a length. Assumes nothing.
+use Prim.Native.Nat.{ℕ, _+_, _*_}
 use mathlib.Core.Path.{_≡_}
 use mathlib.Core.List.{List}
+use lib.Dec.{ltb}
+use lib.IntN.{ℤ}
+use lib.ListN.{length}
+use Rattle.lists.specs.Pick.{pick}
 use Rattle.refusal.specs.declared.Verdict.{Verdict}
 use Rattle.refusal.specs.Refusal.{verdictTold}
+use Rattle.map.specs.Map.{imageBytes}
+use Rattle.eeprom.specs.declared.Loaded.{Loaded}
+use Rattle.eeprom.specs.Load.{Tables, Loads}
 use Rattle.listing.specs.Index.{Lists}
 use Rattle.listing.specs.Read.{Reads}
 use Rattle.writer.specs.Write.{Writes}
+use Rattle.border.specs.Record.{recordOut}
+use Rattle.capi_cards.specs.declared.Load.{Load}
 use Rattle.capi_cards.specs.declared.Outcome.{Outcome}
+use Rattle.capi_cards.specs.declared.Part.{Part}
+
+abbrev pub loadedOut : Loaded → Load
+loadedOut l = record {
+  number = verdictTold (l .verdict) .number;
+  place = verdictTold (l .verdict) .place;
+  value = verdictTold (l .verdict) .value;
+  mended = l .mending .count;
+  «last_mended» = l .mending .last;
+  calibration = recordOut (l .calibration);
+}
+
+-- what the inner load says of the image, the tables before and after, and an answer; and C has that answer
+pub record Loading (image : List ℕ) (before after : Tables) (r : Load) : Type 0 where
+  pub inner : Loaded
+  pub loads : Loads image before after inner
+  pub out : r ≡ loadedOut inner
 
 abbrev pub outcomeOf : Verdict → Outcome
 outcomeOf v = record { number = verdictTold v .number; place = verdictTold v .place; value = verdictTold v .value }
@@ -23,3 +49,13 @@ pub record Reading (image : List ℕ) (before after : Lists) (r : Outcome) : Typ
   pub inner : Verdict
   pub reads : Reads image before after inner
   pub out : r ≡ outcomeOf inner
+
+-- the row of alpha as a place in the image and a length
+unfoldable pub rowPlace : List ℕ → ℕ → Part
+rowPlace image row =
+    pick (ltb 5 row) (record { start = 0; length = 0 })
+    (pick (ltb (length image) imageBytes) (record { start = 0; length = 0 }) (record { start = 512 + row * 64; length = 64 }))
+
+-- the offsets are the first entries of their table
+abbrev pub offsetsPlace : List ℤ → Part
+offsetsPlace part = record { start = 0; length = length part }

@@ -1,0 +1,2 @@
+-- The record and the subpage as C has them.
+pub mod Record

@@ -1,0 +1,2 @@
+-- Chip words as C has them.
+pub mod Border
