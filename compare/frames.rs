@@ -339,6 +339,28 @@ fn one(tally: &mut Tally, powf: &mut [Powf; 2], n: &mut Numbers, label: &str) {
         let class = &mut powf[usize::from(kind != "realistic")];
         compare_powf(class, label, &destination, &after, |i| i < 192 && f.mask[i] != 0);
     }
+    if n.one_in(4) {
+        filtered(tally, n, label, &f, &before);
+    }
+}
+
+// The forms with a filter's answer: a whole average is another reading, which the crate can judge; not yet is the frame's own.
+fn filtered(tally: &mut Tally, n: &mut Numbers, label: &str, f: &Frame, before: &[u32]) {
+    let average = (!n.one_in(4)).then(|| n.word());
+    let mut steadied = f.clone();
+    steadied.ram.compensation_pixel = average.unwrap_or(f.ram.compensation_pixel);
+    tally.count("frames with a filter's answer");
+
+    let mut after = before.to_vec();
+    let answer = library::filtered_pixels_to_ir_data(f, average.map(f32::from), &mut after);
+    let said = of_call(before, |destination| published::raw_pixels_to_ir_data(&steadied, destination));
+    let j = Judged { call: "infrared, filtered", label, mask: &f.mask, before };
+    judge(tally, &j, document::infrared(f, before.len()), answer, &after, &said);
+
+    let mut after = before.to_vec();
+    let answer = library::filtered_pixels_to_temperatures(f, average.map(f32::from), &mut after);
+    let said = of_call(before, |destination| rooted::raw_pixels_to_temperatures(&steadied, destination));
+    judge(tally, &Judged { call: "one pass, filtered", ..j }, document::one_pass(f, before.len()), answer, &after, &said);
 }
 
 pub fn compare(tally: &mut Tally, seed: u64, frames: u64) {

@@ -242,3 +242,13 @@ pub fn raw_pixels_to_temperatures(f: &Frame, destination: &mut [u32]) -> Answer 
     }
     answer
 }
+
+pub fn filtered_pixels_to_ir_data(f: &Frame, average: Option<f32>, destination: &mut [u32]) -> Answer {
+    let given = if planted("filtered-infrared-raw") { None } else { average };
+    border::filtered_pixels_to_ir_data(&reading(f), given, destination)
+}
+
+pub fn filtered_pixels_to_temperatures(f: &Frame, average: Option<f32>, destination: &mut [u32]) -> Answer {
+    let given = if planted("filtered-not-yet-is-0") { Some(average.unwrap_or(0.0)) } else { average };
+    border::filtered_pixels_to_temperatures(&reading(f), given, &heat(f), destination)
+}

@@ -153,6 +153,45 @@ loamchalice_answer loamchalice_raw_pixels_to_temperatures(
     const uint8_t *pixels, size_t pixels_length, const uint8_t *mask, size_t mask_length,
     uint32_t *destination, size_t destination_length);
 
+/* A steadier compensation pixel: the last 16 raw readings and their sum, by value. Keep one for each subpage that is read: a filter knows nothing
+ * of subpages. A new one is all zero. One made by hand gives an answer too: a sum that 20 bits signed don't hold counts as the nearest that they do. */
+typedef struct {
+    int16_t readings[16];
+    int32_t sum;
+    uint8_t turn; /* how many readings there are, 0 to 15; once 16 are in, 16 and the place of the oldest */
+} loamchalice_filter;
+
+typedef struct {
+    float average; /* of the last 16 readings, not rounded; +0 where ready is 0 */
+    uint8_t ready; /* 0: fewer than 16 are in */
+} loamchalice_average;
+
+/* A filter with no reading in it. To reset a filter is to go on with this one. */
+loamchalice_filter loamchalice_filter_new(void);
+
+/* The filter with one reading more: ram.compensation_pixel of each frame of its subpage. */
+loamchalice_filter loamchalice_filter_push(loamchalice_filter filter, int16_t reading);
+
+loamchalice_average loamchalice_filter_average(loamchalice_filter filter);
+
+/* As the calls without a filter, with an average where they have ram.compensation_pixel; with average_ready 0 they are those calls. They push nothing. An
+ * average that is not a number refuses nothing: where the record has a gradient every pixel asked for is lost. */
+loamchalice_answer loamchalice_filtered_pixels_to_ir_data(
+    loamchalice_record calibration, float emissivity, float resolution_correction, float v_dd_0, loamchalice_ram ram,
+    uint8_t average_ready, float average, uint8_t subpage,
+    const int32_t *offsets0, size_t offsets0_length, const int32_t *offsets1, size_t offsets1_length,
+    const float *k_v, size_t k_v_length, const float *k_ta, size_t k_ta_length,
+    const uint8_t *pixels, size_t pixels_length, const uint8_t *mask, size_t mask_length,
+    uint32_t *destination, size_t destination_length);
+
+loamchalice_answer loamchalice_filtered_pixels_to_temperatures(
+    loamchalice_record calibration, float emissivity, float resolution_correction, float v_dd_0, loamchalice_ram ram,
+    uint8_t average_ready, float average, uint8_t subpage, size_t basic_range, uint8_t reflected_given, float reflected,
+    const int32_t *offsets0, size_t offsets0_length, const int32_t *offsets1, size_t offsets1_length,
+    const float *alpha, size_t alpha_length, const float *k_v, size_t k_v_length, const float *k_ta, size_t k_ta_length,
+    const uint8_t *pixels, size_t pixels_length, const uint8_t *mask, size_t mask_length,
+    uint32_t *destination, size_t destination_length);
+
 /* The MLX90640: 32 by 24 pixels, row by row. Its card is not loaded yet; these are the odd parts of it. */
 #define LOAMCHALICE_MLX90640_PIXELS 768
 

@@ -1,6 +1,6 @@
 //! The lamp box's loop: a card, frames, a limit; lamp down on any refusal, a short frame among them, or lost pixel.
 //!   cargo run --offline --example lamp -- ../../cards/sound.bin
-use loamchalice::{Calibration, RamData, Refusal, Settings, Subpage, ALL_PIXELS};
+use loamchalice::{Calibration, Filter, RamData, Refusal, Settings, Subpage, ALL_PIXELS};
 
 const LIMIT: f32 = 45.0;
 
@@ -17,10 +17,14 @@ fn read_camera(frame: i16) -> (RamData, Vec<u8>) {
     (ram, pixels)
 }
 
-fn judge(camera: &Calibration, frame: i16, picture: &mut [f32; 192]) -> Result<Lamp, Refusal> {
+// A filter of the compensation pixel for each subpage.
+fn judge(camera: &Calibration, filters: &mut [Filter; 2], frame: i16, picture: &mut [f32; 192]) -> Result<Lamp, Refusal> {
     let (ram, pixels) = read_camera(frame);
     let subpage = if frame % 2 == 0 { Subpage::Zero } else { Subpage::One };
-    let seen = camera.raw_pixels_to_temperatures(&Settings::default(), ram, subpage, &pixels, &ALL_PIXELS, picture)?;
+    let filter = &mut filters[subpage as usize];
+    filter.push(ram.compensation_pixel);
+    let average = filter.average();
+    let seen = camera.filtered_pixels_to_temperatures(&Settings::default(), ram, average, subpage, &pixels, &ALL_PIXELS, picture)?;
     if seen.lost > 0 {
         return Ok(Lamp::Down(format!("{} pixels lost", seen.lost)));
     }
@@ -43,8 +47,9 @@ fn main() {
         println!("the card goes bad: {}", camera.mended());
     }
     let mut picture = [0f32; 192];
+    let mut filters = [Filter::new(); 2];
     for frame in 0.. {
-        match judge(&camera, frame, &mut picture) {
+        match judge(&camera, &mut filters, frame, &mut picture) {
             Ok(Lamp::On) => {}
             Ok(Lamp::Down(why)) => return println!("lamp down: {why}"),
             Err(refusal) => return println!("lamp down: {refusal}"),

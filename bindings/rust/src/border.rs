@@ -128,12 +128,27 @@ pub struct Step {
     pub reached: u8,
 }
 
+#[repr(C)]
+#[derive(Clone, Copy, Debug, PartialEq, Eq)]
+pub struct Filter {
+    pub readings: [i16; 16],
+    pub sum: i32,
+    pub turn: u8,
+}
+
+#[repr(C)]
+#[derive(Clone, Copy, Debug)]
+pub struct Average {
+    pub average: f32,
+    pub ready: u8,
+}
+
 // What the archive hands over, on a processor of 64 bits.
 const _: () = {
     use std::mem::size_of;
     assert!(size_of::<Word>() == 32 && size_of::<Part>() == 16 && size_of::<Record>() == 100);
     assert!(size_of::<Load>() == 144 && size_of::<Ram>() == 10 && size_of::<Answer>() == 40 && size_of::<Outcome>() == 24);
-    assert!(size_of::<Step>() == 40);
+    assert!(size_of::<Step>() == 40 && size_of::<Filter>() == 40 && size_of::<Average>() == 8);
     assert!(size_of::<SixTen>() == 4 && size_of::<Unsigned>() == 4 && size_of::<Signed>() == 4);
     assert!(size_of::<AccessPattern>() == 36 && size_of::<PixelEntry>() == 32);
 };
@@ -169,6 +184,22 @@ extern "C" {
     ) -> Answer;
     fn loamchalice_raw_pixels_to_temperatures(
         calibration: Record, emissivity: f32, resolution_correction: f32, v_dd_0: f32, ram: Ram, subpage: u8,
+        basic_range: usize, reflected_given: u8, reflected: f32,
+        offsets0: *const i32, offsets0_length: usize, offsets1: *const i32, offsets1_length: usize, alpha: *const f32, alpha_length: usize,
+        k_v: *const f32, k_v_length: usize, k_ta: *const f32, k_ta_length: usize,
+        pixels: *const u8, pixels_length: usize, mask: *const u8, mask_length: usize, destination: *mut u32, destination_length: usize,
+    ) -> Answer;
+    fn loamchalice_filter_new() -> Filter;
+    fn loamchalice_filter_push(filter: Filter, reading: i16) -> Filter;
+    fn loamchalice_filter_average(filter: Filter) -> Average;
+    fn loamchalice_filtered_pixels_to_ir_data(
+        calibration: Record, emissivity: f32, resolution_correction: f32, v_dd_0: f32, ram: Ram, average_ready: u8, average: f32, subpage: u8,
+        offsets0: *const i32, offsets0_length: usize, offsets1: *const i32, offsets1_length: usize,
+        k_v: *const f32, k_v_length: usize, k_ta: *const f32, k_ta_length: usize,
+        pixels: *const u8, pixels_length: usize, mask: *const u8, mask_length: usize, destination: *mut u32, destination_length: usize,
+    ) -> Answer;
+    fn loamchalice_filtered_pixels_to_temperatures(
+        calibration: Record, emissivity: f32, resolution_correction: f32, v_dd_0: f32, ram: Ram, average_ready: u8, average: f32, subpage: u8,
         basic_range: usize, reflected_given: u8, reflected: f32,
         offsets0: *const i32, offsets0_length: usize, offsets1: *const i32, offsets1_length: usize, alpha: *const f32, alpha_length: usize,
         k_v: *const f32, k_v_length: usize, k_ta: *const f32, k_ta_length: usize,
@@ -316,6 +347,83 @@ pub fn raw_pixels_to_temperatures(r: &Reading, heat: &Heat, destination: &mut [u
             r.resolution_correction,
             r.v_dd_0,
             r.ram,
+            r.subpage,
+            heat.basic_range,
+            heat.given.into(),
+            heat.reflected,
+            zero.as_ptr(),
+            zero.len(),
+            one.as_ptr(),
+            one.len(),
+            heat.alpha.as_ptr(),
+            heat.alpha.len(),
+            r.k_v.as_ptr(),
+            r.k_v.len(),
+            r.k_ta.as_ptr(),
+            r.k_ta.len(),
+            r.pixels.as_ptr(),
+            r.pixels.len(),
+            r.mask.as_ptr(),
+            r.mask.len(),
+            destination.as_mut_ptr(),
+            destination.len(),
+        )
+    }
+}
+
+pub fn filter_new() -> Filter {
+    unsafe { loamchalice_filter_new() }
+}
+
+pub fn filter_push(filter: Filter, reading: i16) -> Filter {
+    unsafe { loamchalice_filter_push(filter, reading) }
+}
+
+pub fn filter_average(filter: Filter) -> Average {
+    unsafe { loamchalice_filter_average(filter) }
+}
+
+pub fn filtered_pixels_to_ir_data(r: &Reading, average: Option<f32>, destination: &mut [u32]) -> Answer {
+    let [zero, one] = r.offsets;
+    unsafe {
+        loamchalice_filtered_pixels_to_ir_data(
+            r.record,
+            r.emissivity,
+            r.resolution_correction,
+            r.v_dd_0,
+            r.ram,
+            average.is_some().into(),
+            average.unwrap_or(0.0),
+            r.subpage,
+            zero.as_ptr(),
+            zero.len(),
+            one.as_ptr(),
+            one.len(),
+            r.k_v.as_ptr(),
+            r.k_v.len(),
+            r.k_ta.as_ptr(),
+            r.k_ta.len(),
+            r.pixels.as_ptr(),
+            r.pixels.len(),
+            r.mask.as_ptr(),
+            r.mask.len(),
+            destination.as_mut_ptr(),
+            destination.len(),
+        )
+    }
+}
+
+pub fn filtered_pixels_to_temperatures(r: &Reading, average: Option<f32>, heat: &Heat, destination: &mut [u32]) -> Answer {
+    let [zero, one] = r.offsets;
+    unsafe {
+        loamchalice_filtered_pixels_to_temperatures(
+            r.record,
+            r.emissivity,
+            r.resolution_correction,
+            r.v_dd_0,
+            r.ram,
+            average.is_some().into(),
+            average.unwrap_or(0.0),
             r.subpage,
             heat.basic_range,
             heat.given.into(),

@@ -18,11 +18,13 @@
 mod border;
 mod burning;
 mod card;
+mod filter;
 pub mod mlx90640;
 mod refusal;
 
 pub use burning::{burn, next_step, Burnt, Step};
 pub use card::Card;
+pub use filter::Filter;
 pub use refusal::Refusal;
 
 /// A mask that asks for every pixel.
@@ -325,6 +327,50 @@ impl Calibration {
     ) -> Result<Frame, Refusal> {
         let reading = self.reading(settings, ram, subpage, pixels, valid_pixels);
         answered(border::raw_pixels_to_temperatures(&reading, &self.heat(settings), as_bits(destination)))
+    }
+
+    /// [`Calibration::raw_pixels_to_ir_data`] with what a [`Filter`] answers; `None` is that call. An average that is not a number refuses nothing: with a
+    /// gradient every pixel asked for is lost.
+    #[allow(clippy::too_many_arguments)]
+    pub fn filtered_pixels_to_ir_data(
+        &self,
+        settings: &Settings,
+        ram: RamData,
+        average: Option<f32>,
+        subpage: Subpage,
+        pixels: &[u8],
+        valid_pixels: &[bool],
+        destination: &mut [f32],
+    ) -> Result<Frame, Refusal> {
+        let reading = self.reading(settings, ram, subpage, pixels, valid_pixels);
+        answered(border::filtered_pixels_to_ir_data(&reading, average, as_bits(destination)))
+    }
+
+    /// [`Calibration::raw_pixels_to_temperatures`] with what a [`Filter`] answers; as above.
+    ///
+    /// ```
+    /// use loamchalice::{Calibration, Filter, RamData, Settings, Subpage, ALL_PIXELS};
+    /// let camera = Calibration::from_data(include_bytes!("../../../cards/sound.bin"))?;
+    /// let ram = RamData { t_a_v_be: 19442, t_a_ptat: 1711, v_dd_pixel: -13115, gain: 6391, compensation_pixel: -105 };
+    /// let mut filter = Filter::new(); // of this subpage
+    /// filter.push(ram.compensation_pixel);
+    /// let mut picture = [0f32; 192];
+    /// camera.filtered_pixels_to_temperatures(&Settings::default(), ram, filter.average(), Subpage::Zero, &[0xFD; 384], &ALL_PIXELS, &mut picture)?;
+    /// # Ok::<(), loamchalice::Refusal>(())
+    /// ```
+    #[allow(clippy::too_many_arguments)]
+    pub fn filtered_pixels_to_temperatures(
+        &self,
+        settings: &Settings,
+        ram: RamData,
+        average: Option<f32>,
+        subpage: Subpage,
+        pixels: &[u8],
+        valid_pixels: &[bool],
+        destination: &mut [f32],
+    ) -> Result<Frame, Refusal> {
+        let reading = self.reading(settings, ram, subpage, pixels, valid_pixels);
+        answered(border::filtered_pixels_to_temperatures(&reading, average, &self.heat(settings), as_bits(destination)))
     }
 
     fn reading<'a>(&'a self, settings: &Settings, ram: RamData, subpage: Subpage, pixels: &'a [u8], valid_pixels: &'a [bool]) -> border::Reading<'a> {

@@ -1,5 +1,5 @@
 //! Readings of document 01 through the binding.
-use loamchalice::{burn, next_step, Burnt, Calibration, Card, RamData, Refusal, Settings, Subpage, ALL_PIXELS};
+use loamchalice::{burn, next_step, Burnt, Calibration, Card, Filter, RamData, Refusal, Settings, Subpage, ALL_PIXELS};
 
 const SOUND: &[u8] = include_bytes!("../../../cards/sound.bin");
 const ROOM: RamData = RamData { t_a_v_be: 19442, t_a_ptat: 1711, v_dd_pixel: -13115, gain: 6391, compensation_pixel: -105 };
@@ -146,4 +146,56 @@ fn burns_are_refused_and_change_nothing() {
     assert_eq!(burn(&mut card[..7], &wanted[..1663]).map_err(told), Err((1, 7, 0)));
     assert_eq!(card, SOUND);
     assert_eq!(burn(&mut card, SOUND), Ok(Burnt { step: None, reached: true }));
+}
+
+#[test]
+fn a_filter_has_the_last_16() {
+    let mut filter = Filter::new();
+    let readings: Vec<i16> = (0..100).map(|k| [-32768, 32767, 7, -105][k % 4] ^ (k as i16)).collect();
+    for (k, reading) in readings.iter().enumerate() {
+        filter.push(*reading);
+        let afresh = readings[..=k].iter().rev().take(16).map(|x| f64::from(*x)).sum::<f64>() / 16.0;
+        assert_eq!(filter.average().map(f64::from), (k >= 15).then_some(afresh));
+    }
+    filter.reset();
+    assert_eq!(filter, Filter::new());
+}
+
+// A whole average is what another reading would be, so the plain calls say what the filtered ones must.
+#[test]
+fn an_average_stands_where_the_reading_stood() {
+    let camera = Calibration::from_data(SOUND).unwrap();
+    let settings = Settings { emissivity: 0.9, reflected: Some(21.0), ..Settings::default() };
+    let pixels = [0xFD, 0x94].repeat(192);
+    let plain = |reading: i16, temperatures: bool| {
+        let (ram, mut picture) = (RamData { compensation_pixel: reading, ..ROOM }, [0f32; 192]);
+        let call = if temperatures { Calibration::raw_pixels_to_temperatures } else { Calibration::raw_pixels_to_ir_data };
+        (call(&camera, &settings, ram, Subpage::One, &pixels, &ALL_PIXELS, &mut picture), picture.map(f32::to_bits))
+    };
+    let filtered = |average: Option<f32>, temperatures: bool| {
+        let mut picture = [0f32; 192];
+        let call = if temperatures { Calibration::filtered_pixels_to_temperatures } else { Calibration::filtered_pixels_to_ir_data };
+        (call(&camera, &settings, ROOM, average, Subpage::One, &pixels, &ALL_PIXELS, &mut picture), picture.map(f32::to_bits))
+    };
+    for temperatures in [false, true] {
+        assert_eq!(filtered(None, temperatures), plain(ROOM.compensation_pixel, temperatures));
+        for reading in [-32768, -1, 0, 99, 32767] {
+            assert_eq!(filtered(Some(f32::from(reading)), temperatures), plain(reading, temperatures));
+        }
+        assert_ne!(filtered(Some(-105.5), temperatures).1, plain(-105, temperatures).1);
+    }
+}
+
+#[test]
+fn an_average_that_is_no_number_loses_every_pixel_if_there_is_a_gradient() {
+    let camera = Calibration::from_data(SOUND).unwrap();
+    let mut mask = ALL_PIXELS;
+    mask[7] = false;
+    for (gradient, lost) in [(Some(0.0), 191), (None, 0)] {
+        let camera = camera.clone().with_gradient(gradient);
+        let mut picture = [1f32; 192];
+        let call = camera.filtered_pixels_to_temperatures(&Settings::default(), ROOM, Some(f32::NAN), Subpage::Zero, &[0xFD; 384], &mask, &mut picture);
+        assert_eq!(call.unwrap().lost, lost);
+        assert_eq!(picture.iter().filter(|t| t.to_bits() == 0x7FC0_0000).count(), lost);
+    }
 }

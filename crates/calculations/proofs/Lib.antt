@@ -1,7 +1,8 @@
--- Single, Demand and OneOrTwo are the laws that callers cite; the others lead to the code.
+-- Single, Demand, OneOrTwo and NoAverage are the laws that callers cite; the others lead to the code.
 mod Opened
 mod Calls
 mod Both
 pub mod Single
 pub mod Demand
 pub mod OneOrTwo
+pub mod NoAverage

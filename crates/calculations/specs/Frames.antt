@@ -13,6 +13,8 @@ use Rattle.refusal.specs.declared.Verdict.the-variants as Verdict
 use Rattle.calibration.specs.declared.Calibration.{Calibration}
 use Rattle.eeprom.specs.declared.Subpage.{Subpage}
 use Rattle.eeprom.specs.Parts.{offsetsOf}
+use Rattle.filter.specs.declared.Steadied.{Steadied}
+use Rattle.filter.specs.declared.Steadied.the-variants.{NotYet, Average}
 use Rattle.formulas.specs.declared.CommonIrData.{CommonIrData}
 use Rattle.formulas.specs.declared.RamData.{RamData}
 use Rattle.formulas.specs.declared.Reflected.{Reflected}
@@ -74,6 +76,11 @@ irCall c e s ram compensation sub o0 o1 v t p m = record {
 -- the frame's own compensation reading
 abbrev pub ownReading : RamData → Float
 ownReading ram = real (ram .«compensation_pixel»)
+
+-- what stands for it: a filter's average, or the frame's own reading where there is none yet
+abbrev pub steadied : Steadied → RamData → Float
+steadied NotYet ram = ownReading ram
+steadied (Average x) ram = x
 
 -- the four numbers common to all pixels
 unfoldable pub common : IrCall → CommonIrData

@@ -1,13 +1,14 @@
-// The three frame calls: pixels to infrared, infrared to temperature, and both in one pass.
+// The frame calls: pixels to infrared, infrared to temperature, and both in one pass; the two that take pixels also with a filter's average.
 ghost use mathlib.Core.Path.{_≡_};
 ghost use Prim.Native.Nat.{min, _*_, _<_, _≤_};
 ghost use lib.ListN.{length, getD};
 ghost use lib.Ieee.{nan};
 ghost use Rattle.map.specs.Map.{framePixels};
-ghost use Rattle.calculations.specs.Frames.{irCall, toCall, passCall, ownReading, Infrareds, Temperatures, Passes};
+ghost use Rattle.calculations.specs.Frames.{irCall, toCall, passCall, ownReading, steadied, Infrareds, Temperatures, Passes};
 ghost use Rattle.calculations.specs.Inner.{Infrared, Temperature};
 use calibration::Calibration;
 use eeprom::Subpage;
+use filter::Steadied;
 use formulas::RamData;
 use formulas::Reflected;
 use formulas::Supply;
@@ -328,6 +329,94 @@ pub fn raw_pixels_to_temperatures<'a>(
         supply,
         ram,
         own_reading(ram),
+        subpage,
+        basic_range,
+        reflected,
+        offsets0,
+        offsets1,
+        alpha,
+        k_v,
+        k_ta,
+        pixels,
+        mask,
+        destination,
+    )
+}
+
+// What stands for the compensation pixel's reading.
+fn steadied(compensation: Steadied, ram: RamData) -> f32
+    ensures { λ r. ⌜ r ≡ steadied compensation ram ⌝ }
+{
+    match compensation {
+        Steadied::NotYet => own_reading(ram),
+        Steadied::Average(average) => average,
+    }
+}
+
+// Pixels to infrared numbers, with a filter's answer for the compensation pixel.
+pub fn filtered_pixels_to_ir_data<'a>(
+    calibration: Calibration,
+    emissivity: f32,
+    supply: Supply,
+    ram: RamData,
+    compensation: Steadied,
+    subpage: Subpage,
+    offsets0: &'a [Offset],
+    offsets1: &'a [Offset],
+    k_v: &[f32],
+    k_ta: &[f32],
+    pixels: &[u8],
+    mask: &[u8],
+    destination: &mut [u32],
+) -> Frame
+    ensures { λ r. ⌜ Infrareds (irCall calibration emissivity supply ram (steadied compensation ram) subpage (now (offsets0 .entry)) (now (offsets1 .entry)) (now («k_v» .entry)) (now («k_ta» .entry)) (now (pixels .entry)) (now (mask .entry)))
+        (now (destination .entry)) (now (destination .exit)) r ⌝ }
+{
+    pixels_to_ir_data(
+        calibration,
+        emissivity,
+        supply,
+        ram,
+        steadied(compensation, ram),
+        subpage,
+        offsets0,
+        offsets1,
+        k_v,
+        k_ta,
+        pixels,
+        mask,
+        destination,
+    )
+}
+
+// Pixels to temperatures in one pass, with a filter's answer for the compensation pixel.
+pub fn filtered_pixels_to_temperatures<'a>(
+    calibration: Calibration,
+    emissivity: f32,
+    supply: Supply,
+    ram: RamData,
+    compensation: Steadied,
+    subpage: Subpage,
+    basic_range: usize,
+    reflected: Reflected,
+    offsets0: &'a [Offset],
+    offsets1: &'a [Offset],
+    alpha: &[f32],
+    k_v: &[f32],
+    k_ta: &[f32],
+    pixels: &[u8],
+    mask: &[u8],
+    destination: &mut [u32],
+) -> Frame
+    ensures { λ r. ⌜ Passes (passCall (irCall calibration emissivity supply ram (steadied compensation ram) subpage (now (offsets0 .entry)) (now (offsets1 .entry)) (now («k_v» .entry)) (now («k_ta» .entry)) (now (pixels .entry)) (now (mask .entry))) «basic_range» reflected (now (alpha .entry)))
+        (now (destination .entry)) (now (destination .exit)) r ⌝ }
+{
+    pixels_to_temperatures(
+        calibration,
+        emissivity,
+        supply,
+        ram,
+        steadied(compensation, ram),
         subpage,
         basic_range,
         reflected,

@@ -31,7 +31,7 @@ pub struct Answer {
     pub t_a: u32,
 }
 
-fn ram_in(ram: Ram) -> RamData
+pub fn ram_in(ram: Ram) -> RamData
     ensures { λ r. ⌜ r ≡ ramIn ram ⌝ }
 {
     RamData {
@@ -44,7 +44,7 @@ fn ram_in(ram: Ram) -> RamData
 }
 
 // The reflected temperature where it is given, else the self-heating that the ambient temperature loses.
-fn reflected_in(given: u8, number: f32) -> Reflected
+pub fn reflected_in(given: u8, number: f32) -> Reflected
     ensures { λ r. ⌜ r ≡ reflectedIn given number ⌝ }
 {
     if given == 0 {
@@ -56,7 +56,7 @@ fn reflected_in(given: u8, number: f32) -> Reflected
     }
 }
 
-fn frame_out(frame: Frame) -> Answer
+pub fn frame_out(frame: Frame) -> Answer
     ensures { λ r. ⌜ r ≡ frameOut frame ⌝ }
 {
     match frame {

@@ -2,3 +2,4 @@
 pub mod Nan
 pub mod Power
 pub mod Constants
+pub mod Exact

@@ -6,6 +6,7 @@ use calculations::Frame;
 use calibration::Calibration;
 use calibration::Gradient;
 use eeprom::Subpage;
+use filter::Steadied;
 use formulas::RamData;
 use formulas::Reflected;
 use formulas::Supply;
@@ -37,6 +38,9 @@ pub struct Ask {
     pub first: u32,
     pub second: u32,
     pub rest: u32,
+    // the form with a filter's answer: 0 is the plain one, 1 not yet, 2 the average
+    pub form: u8,
+    pub average: f32,
 }
 
 // The first two are 40 and -12.5.
@@ -58,6 +62,8 @@ pub fn usual() -> Ask {
         first: 0x4220_0000,
         second: 0xC148_0000,
         rest: 77,
+        form: 0,
+        average: -105.0625,
     }
 }
 
@@ -197,7 +203,7 @@ fn reflected_of(ask: Ask) -> Reflected {
 
 // ---- Writing
 
-fn tab_number(n: u64) {
+pub fn tab_number(n: u64) {
     io::write_all(STDOUT_FILENO, b"\t");
     io::print_decimal(STDOUT_FILENO, n);
 }
@@ -255,6 +261,61 @@ fn entries_of(table: u8, short: u8) -> usize {
     if table == short { 191 } else { 192 }
 }
 
+fn steadied_of(ask: Ask) -> Steadied {
+    if ask.form == 1 {
+        Steadied::NotYet
+    } else {
+        Steadied::Average(ask.average)
+    }
+}
+
+// The plain form, or the one with a filter's answer.
+fn infrared_call<'a>(
+    calibration: Calibration,
+    ram: RamData,
+    ask: Ask,
+    offsets0: &'a [Offset],
+    offsets1: &'a [Offset],
+    k_v: &[f32],
+    k_ta: &[f32],
+    pixels: &[u8],
+    mask: &[u8],
+    destination: &mut [u32],
+) -> Frame {
+    let subpage = subpage_of(ask.subpage);
+    if ask.form == 0 {
+        return calculations::raw_pixels_to_ir_data(
+            calibration,
+            ask.emissivity,
+            supply(),
+            ram,
+            subpage,
+            offsets0,
+            offsets1,
+            k_v,
+            k_ta,
+            pixels,
+            mask,
+            destination,
+        );
+    }
+    calculations::filtered_pixels_to_ir_data(
+        calibration,
+        ask.emissivity,
+        supply(),
+        ram,
+        steadied_of(ask),
+        subpage,
+        offsets0,
+        offsets1,
+        k_v,
+        k_ta,
+        pixels,
+        mask,
+        destination,
+    )
+}
+
 fn infrared_of<'a>(
     calibration: Calibration,
     ram: RamData,
@@ -268,12 +329,10 @@ fn infrared_of<'a>(
     destination: &mut [u32],
 ) -> Frame {
     let entries = util::least(ask.entries, destination.len());
-    calculations::raw_pixels_to_ir_data(
+    infrared_call(
         calibration,
-        ask.emissivity,
-        supply(),
         ram,
-        subpage_of(ask.subpage),
+        ask,
         stored::wholes(offsets0, entries_of(1, ask.short)),
         stored::wholes(offsets1, entries_of(2, ask.short)),
         stored::reals(k_v, entries_of(4, ask.short)),
@@ -304,6 +363,61 @@ fn temperatures_of(
     )
 }
 
+// Likewise.
+fn pass_call<'a>(
+    calibration: Calibration,
+    ram: RamData,
+    ask: Ask,
+    offsets0: &'a [Offset],
+    offsets1: &'a [Offset],
+    alpha: &[f32],
+    k_v: &[f32],
+    k_ta: &[f32],
+    pixels: &[u8],
+    mask: &[u8],
+    destination: &mut [u32],
+) -> Frame {
+    let subpage = subpage_of(ask.subpage);
+    let reflected = reflected_of(ask);
+    if ask.form == 0 {
+        return calculations::raw_pixels_to_temperatures(
+            calibration,
+            ask.emissivity,
+            supply(),
+            ram,
+            subpage,
+            ask.range,
+            reflected,
+            offsets0,
+            offsets1,
+            alpha,
+            k_v,
+            k_ta,
+            pixels,
+            mask,
+            destination,
+        );
+    }
+    calculations::filtered_pixels_to_temperatures(
+        calibration,
+        ask.emissivity,
+        supply(),
+        ram,
+        steadied_of(ask),
+        subpage,
+        ask.range,
+        reflected,
+        offsets0,
+        offsets1,
+        alpha,
+        k_v,
+        k_ta,
+        pixels,
+        mask,
+        destination,
+    )
+}
+
 fn pass_of<'a>(
     calibration: Calibration,
     ram: RamData,
@@ -318,14 +432,10 @@ fn pass_of<'a>(
     destination: &mut [u32],
 ) -> Frame {
     let entries = util::least(ask.entries, destination.len());
-    calculations::raw_pixels_to_temperatures(
+    pass_call(
         calibration,
-        ask.emissivity,
-        supply(),
         ram,
-        subpage_of(ask.subpage),
-        ask.range,
-        reflected_of(ask),
+        ask,
         stored::wholes(offsets0, entries_of(1, ask.short)),
         stored::wholes(offsets1, entries_of(2, ask.short)),
         stored::reals(alpha, entries_of(3, ask.short)),

@@ -1,9 +1,11 @@
-// Runs the three frame calls and writes a line for each run; crate `frame_case` says what is in a line.
+// Runs the frame calls and the filter and writes a line for each run; crate `frame_case` says what is in a line.
 // The expected lines in `stdout` were not taken from this program. `cards/expect_frames` writes them from document 01, with its own
 // rounding, its own formulas and its own rules for a frame.
 use calibration::Calibration;
 use calibration::Gradient;
+use filter::Steadied;
 use formulas::RamData;
+use libc::STDOUT_FILENO;
 use offsets::Offset;
 
 // ---- Usual frames
@@ -390,6 +392,89 @@ fn both_ways() {
     both(b"both ways, emissivity 0", 0, 8, 0.0, 1);
 }
 
+// ---- A filter's answer for the compensation pixel: not yet, averages, one that is not a number, with a gradient and without
+
+fn with_filter(label: &[u8], form: u8, average: u32, gradient: Gradient) {
+    let mut ask = frame_case::usual();
+    ask.form = form;
+    ask.average = floats::from_bits(average);
+    ask.case = average as u64;
+    frame_case::both_ways(label, frame_case::record(gradient), frame_case::room(), ask);
+}
+
+fn filtered_frames() {
+    let gradient = frame_case::sound().temperature_gradient_coefficient;
+    with_filter(b"not yet", 1, 0x42F6_E979, gradient);
+    with_filter(b"average", 2, 0xC2D3_0000, gradient);
+    with_filter(b"average", 2, 0x3D80_0000, gradient);
+    with_filter(b"average", 2, 0x8000_0000, gradient);
+    with_filter(b"average", 2, 0x7F80_0000, gradient);
+    with_filter(b"average", 2, 0x7FC0_0000, gradient);
+    with_filter(b"average, no gradient", 2, 0x7FC0_0000, Gradient::Missing);
+    let mut ask = frame_case::usual();
+    ask.form = 2;
+    ask.mask_first = 0;
+    ask.average = floats::from_bits(0xFFC0_0001);
+    frame_case::pixel_calls(
+        b"average, mask 0, 1",
+        frame_case::sound(),
+        frame_case::room(),
+        ask,
+    );
+    ask.range = 8;
+    frame_case::pixel_calls(
+        b"average, range 8",
+        frame_case::sound(),
+        frame_case::room(),
+        ask,
+    );
+    ask.emissivity = 0.0;
+    frame_case::pixel_calls(
+        b"average, emissivity 0",
+        frame_case::sound(),
+        frame_case::room(),
+        ask,
+    );
+}
+
+// ---- Readings pushed, and what the filter says after each: not yet, or the bits of the average
+
+fn after_push(case: u64, steadied: Steadied) {
+    io::write_all(STDOUT_FILENO, b"push");
+    frame_case::tab_number(case);
+    match steadied {
+        Steadied::NotYet => {
+            io::write_all(STDOUT_FILENO, b"\tnot yet");
+        }
+        Steadied::Average(average) => {
+            frame_case::tab_number(floats::to_bits(average) as u64);
+        }
+    }
+    io::write_all(STDOUT_FILENO, b"\n");
+}
+
+// Readings from the upper half of a 32-bit number that grows by 0x9E3779B9; at a step of 20 the filter is new again.
+fn pushes() {
+    let mut filter = filter::new();
+    let mut number: u32 = 0;
+    for case in 0..60u64 {
+        if case == 20 {
+            filter = filter::new();
+        }
+        number = std::num::wrapping_add_u32(number, 0x9E37_79B9);
+        filter = filter::push(filter, util::i16_from_bits(number / 65536, 16));
+        after_push(case, filter::average(filter));
+    }
+}
+
+fn held(reading: i16, times: u64) {
+    let mut filter = filter::new();
+    for _ in 0..times {
+        filter = filter::push(filter, reading);
+    }
+    after_push(times, filter::average(filter));
+}
+
 fn main() {
     usual_frames();
     gradients();
@@ -404,4 +489,10 @@ fn main() {
     divisors();
     pairs();
     both_ways();
+    filtered_frames();
+    pushes();
+    held(-32768, 15);
+    held(-32768, 16);
+    held(32767, 40);
+    held(0, 17);
 }

@@ -8,7 +8,7 @@ use lib.Ieee.{Float, nan, inf, fin, up, down, add, sub, div, ofInt}
 use Rattle.lists.proofs.Every.{both, both-left, both-right, every, at}
 use Rattle.floats.specs.Floats.{powerOfTwo, over, _⊕_, _⊖_}
 use Rattle.util.specs.Fields.{signed}
-use Rattle.mlx90640.specs.Exact.{Exactly}
+use Rattle.floats.specs.Exact.{Exactly}
 
 valued : Float → ℤ → ℕ → Bool
 valued nan z e = false
