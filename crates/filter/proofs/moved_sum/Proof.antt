@@ -1,14 +1,15 @@
 -- `filter::moved_sum` meets its contract: both parts are small, so their sum fits. Assumes nothing.
 use borrow.Author.Needs.{needs, sfits-of}
-use mathlib.Core.Path.{_≡_, refl, ap, ap₂, _∙_}
+use mathlib.Core.Path.{_≡_, ap, ap₂, _∙_}
 use native.Mathlib.Omega.{arith}
 use Prim.Native.Nat.{_<_, _≤_}
-use lib.IntN.{ℤ, _+ℤ_}
+use lib.IntN.{ℤ, _+ℤ_, _-ℤ_}
 use lib.Signed.{mag}
 use mir.Facts.{toZ-ofZ}
 use mir.Syntax.{w32}
 use mir.Val.{toZ, ofZ}
 use Rattle.util.proofs.Range.{sum-mag, back32}
+use Rattle.filter.specs.Filter.{kept}
 use Rattle.filter.proofs.moved_sum.Statement.{statement}
 use Rattle.filter.proofs.moved_sum.Tie as tie
 
@@ -34,14 +35,8 @@ returns c =
     let a = c .before .before in
     let s = c .before .kept in
     let d = c .difference in
-    rw (
-      whole (s .result) (d .result) (s .ensures .1) (d .ensures .1),
-      s .ensures .0,
-      d .ensures .0,
-      toZ-ofZ (a .fits .sum),
-      toZ-ofZ (a .fits .oldest),
-      toZ-ofZ (a .fits .reading),
-    ) refl
+    whole (s .result) (d .result) (s .ensures .1) (d .ensures .1)
+    ∙ ap₂ _+ℤ_ (s .ensures .0 ∙ ap kept (toZ-ofZ (a .fits .sum))) (d .ensures .0 ∙ ap₂ _-ℤ_ (toZ-ofZ (a .fits .reading)) (toZ-ofZ (a .fits .oldest)))
 
 pub moved-sum-spec : {M : Type 1} → statement M
 moved-sum-spec = tie.close (tie.spec (λ c κs. search needs) (λ c κs. search needs) add-result returns)
