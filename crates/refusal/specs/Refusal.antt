@@ -2,7 +2,7 @@
 use Prim.Native.Nat.{ℕ}
 use Rattle.refusal.specs.declared.Told.{Told}
 use Rattle.refusal.specs.declared.Refusal.{Refusal}
-use Rattle.refusal.specs.declared.Refusal.the-variants.{ShortImage, ListLength, ShortTable, DamagedWord, LargeScale, BasicRange, SupplyRange, ZeroDivisor, DataTooLarge, ListedDataTooLarge, ShortFrame, UncheckedWord, PixelNumber}
+use Rattle.refusal.specs.declared.Refusal.the-variants.{ShortImage, ListLength, ShortTable, DamagedWord, LargeScale, BasicRange, SupplyRange, ZeroDivisor, DataTooLarge, ListedDataTooLarge, ShortFrame, UncheckedWord, UnorderedCorners, ZeroFactor, PixelNumber}
 use Rattle.refusal.specs.declared.Verdict.{Verdict}
 use Rattle.refusal.specs.declared.Verdict.the-variants.{Pass, Refused}
 
@@ -22,6 +22,8 @@ toldOf (DataTooLarge given) = says 9 given 0
 toldOf (ListedDataTooLarge index given) = says 9 index given
 toldOf (ShortFrame length) = says 10 length 0
 toldOf (UncheckedWord word) = says 11 word 0
+toldOf (UnorderedCorners corner) = says 12 corner 0
+toldOf (ZeroFactor range) = says 13 range 0
 toldOf (PixelNumber pixel) = says 14 pixel 0
 
 -- of a verdict: 0, 0, 0 where nothing is refused

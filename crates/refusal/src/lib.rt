@@ -27,6 +27,10 @@ pub enum Refusal {
     ShortFrame { length: usize },
     // 11: the wanted image has another unchecked word than the present one.
     UncheckedWord { word: usize },
+    // 12: this corner temperature is not above the one before it.
+    UnorderedCorners { corner: usize },
+    // 13: what this range's coefficient is divided by is zero.
+    ZeroFactor { range: usize },
     // 14: the bigger camera has no such pixel.
     PixelNumber { pixel: usize },
 }
@@ -65,6 +69,8 @@ impl Refusal {
             Refusal::ListedDataTooLarge { index, data } => said(9, index as u64, data as u64),
             Refusal::ShortFrame { length } => said(10, length as u64, 0),
             Refusal::UncheckedWord { word } => said(11, word as u64, 0),
+            Refusal::UnorderedCorners { corner } => said(12, corner as u64, 0),
+            Refusal::ZeroFactor { range } => said(13, range as u64, 0),
             Refusal::PixelNumber { pixel } => said(14, pixel as u64, 0),
         }
     }
