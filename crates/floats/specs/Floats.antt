@@ -1,10 +1,11 @@
--- The four operators at binary32, each rounded once, and powers of two. Assumes nothing.
+-- The four operators at binary32, each rounded once, powers of two, and the test for zero. Assumes nothing.
 use Prim.Native.Nat.{ℕ}
-use mathlib.Core.Bool.{false}
+use mathlib.Core.Bool.{Bool, false}
 use lib.Dec.{ltb}
 use lib.IntN.{ℤ, pos}
-use lib.Ieee.{Float, inf, fin, binary32, add, sub, mul, div, ofInt}
+use lib.Ieee.{Float, inf, fin, binary32, add, sub, mul, div, ofInt, eq}
 use Rattle.lists.specs.Pick.{pick}
+use Rattle.floats.specs.Constants.{plusZero}
 
 infixl 60 _⊕_
 infixl 60 _⊖_
@@ -33,3 +34,7 @@ powerOfTwo e = pick (ltb e 128) (fin false 1 (pos e)) (inf false)
 -- a whole number over 2 ^ e
 abbrev pub over : ℤ → ℕ → Float
 over z e = real z ⊘ powerOfTwo e
+
+-- a zero of either sign
+abbrev pub isZero : Float → Bool
+isZero x = eq x plusZero

@@ -4,9 +4,8 @@ use mathlib.Core.Bool.{Bool, not, _||_}
 use mathlib.Core.List.{List, [], _∷_, _++_}
 use lib.Dec.{ltb}
 use lib.IntN.{_-ℤ_}
-use lib.Ieee.{Float, eq, isNan}
-use Rattle.floats.specs.Floats.{real}
-use Rattle.floats.specs.Constants.{plusZero}
+use lib.Ieee.{Float, isNan}
+use Rattle.floats.specs.Floats.{real, isZero}
 use Rattle.util.specs.Fields.{inI16}
 use Rattle.map.specs.Map.{framePixels}
 use Rattle.refusal.specs.declared.Refusal.the-variants.{ShortTable, ShortFrame, BasicRange, SupplyRange, ZeroDivisor}
@@ -21,10 +20,6 @@ abbrev pub frameBytes : ℕ
 frameBytes = 2 * framePixels
 
 -- ---- what is tested
-
--- a zero of either sign
-abbrev pub isZero : Float → Bool
-isZero x = eq x plusZero
 
 -- v_dd_pixel - V_DD25 is outside i16
 unfoldable pub supplyOutside : Calibration → RamData → Bool

@@ -4,9 +4,9 @@ use mathlib.Core.Path.{_≡_, refl, sym, ap, _∙_}
 use mathlib.Core.Bool.{false}
 use mir.Syntax.{w16}
 use mir.Val.{toZ, ofZ}
-use Rattle.floats.specs.Floats.{real}
+use Rattle.floats.specs.Floats.{real, isZero}
 use Rattle.formulas.specs.Frame.{deltaOf, ptatCorrectionOf}
-use Rattle.gates.specs.Gate.{isZero, zeroDivisor}
+use Rattle.gates.specs.Gate.{zeroDivisor}
 use Rattle.gates.proofs.divisor_stops.Statement.{statement}
 use Rattle.gates.proofs.divisor_stops.Tie as tie
 
