@@ -1,4 +1,5 @@
--- Document 01's map, words 34 to 63: the record over `w`, the data of a card's words by their numbers, field after field as the map has them.
+-- Document 01's map, words 34 to 63: the record over `w`, the data of a card's words by their numbers, field after field as the map has them, and
+-- over `b`, the basic range, which the coefficients of document 02, CR 9, begin at.
 -- `wordOf` is the map's, `signed` takes a width, `combined` an upper and a lower word, and `over` divides by a power of two.
 -- Assumes nothing.
 use Prim.Native.Nat.{ℕ, _/_, _%_, _^_}
@@ -13,7 +14,9 @@ use Rattle.map.specs.declared.Field.{Field}
 use Rattle.map.specs.declared.Field.the-variants.{KSTa, Emissivity, Gain, VDd25, KVDd, VPtat25, KTPtat, KVPtat, AlphaPtat, AlphaCp, AlphaCpScale, OffsetCp, KTaCp, KVCp, Gradient, KSToScale, KSTo, Corner}
 use Rattle.map.specs.Map.{wordOf}
 use Rattle.calibration.specs.declared.Calibration.{Calibration}
+use Rattle.calibration.specs.declared.Ranges.{Ranges}
 use Rattle.calibration.specs.declared.Gradient.the-variants.{Coefficient, Missing}
+use Rattle.calibration.specs.Coefficients.{rangeCount, coefficientsOf}
 
 -- the data of a field of one word, and of a field of two
 abbrev pub single : (ℕ → ℕ) → Field → ℕ
@@ -37,8 +40,15 @@ kSTo w k = over (signed 11 (w (wordOf KSTo k))) (single w KSToScale)
 abbrev pub corner : (ℕ → ℕ) → ℕ → ℤ
 corner w k = pos (w (wordOf Corner k))
 
-unfoldable pub calibrationOf : (ℕ → ℕ) → Calibration
-calibrationOf w = record {
+-- words 52 to 63
+unfoldable pub rangesOf : (ℕ → ℕ) → Ranges
+rangesOf w = record {
+  «k_s_to» = kSTo w 0 ∷ kSTo w 1 ∷ kSTo w 2 ∷ kSTo w 3 ∷ kSTo w 4 ∷ kSTo w 5 ∷ kSTo w 6 ∷ kSTo w 7 ∷ [];
+  «corner_temperatures» = minus 40 ∷ minus 20 ∷ pos 0 ∷ pos 80 ∷ pos 120 ∷ corner w 0 ∷ corner w 1 ∷ corner w 2 ∷ [];
+}
+
+unfoldable pub calibrationOf : (ℕ → ℕ) → ℕ → Calibration
+calibrationOf w b = record {
   «k_s_ta» = over (signed 11 (single w KSTa)) 15;
   emissivity = over (signed 11 (single w Emissivity)) 9;
   gain = real (pos (double w Gain));
@@ -54,8 +64,9 @@ calibrationOf w = record {
   «k_v_cp» = lowOver 6 (single w KVCp);
   resolution = resolutionOf (single w Gradient);
   «temperature_gradient_coefficient» = Coefficient (over (signed 9 (single w Gradient)) 6);
-  «k_s_to» = kSTo w 0 ∷ kSTo w 1 ∷ kSTo w 2 ∷ kSTo w 3 ∷ kSTo w 4 ∷ kSTo w 5 ∷ kSTo w 6 ∷ kSTo w 7 ∷ [];
-  «corner_temperatures» = minus 40 ∷ minus 20 ∷ pos 0 ∷ pos 80 ∷ pos 120 ∷ corner w 0 ∷ corner w 1 ∷ corner w 2 ∷ [];
+  «k_s_to» = rangesOf w .«k_s_to»;
+  «corner_temperatures» = rangesOf w .«corner_temperatures»;
+  «range_coefficients» = coefficientsOf (rangesOf w) b;
 }
 
 -- the record of a refusal: every number 0, and no gradient
@@ -76,6 +87,7 @@ noCalibration = record {
   «k_v_cp» = plusZero;
   resolution = 0;
   «temperature_gradient_coefficient» = Missing;
-  «k_s_to» = replicate 8 plusZero;
-  «corner_temperatures» = replicate 8 (pos 0);
+  «k_s_to» = replicate rangeCount plusZero;
+  «corner_temperatures» = replicate rangeCount (pos 0);
+  «range_coefficients» = replicate rangeCount plusZero;
 }

@@ -11,7 +11,11 @@ use Rattle.calibration.specs.declared.References.{References}
 use Rattle.calibration.specs.declared.Ptat.{Ptat}
 use Rattle.calibration.specs.declared.Compensation.{Compensation}
 use Rattle.calibration.specs.declared.Range.{Range}
-use Rattle.calibration.specs.declared.Ranges.{Ranges}
+use Rattle.calibration.specs.Calibration.{calibrationOf}
+
+-- the record of a card as far as its basic range doesn't matter: every part below is the same for all of them
+abbrev pub cardOf : (ℕ → ℕ) → Calibration
+cardOf w = calibrationOf w 0
 
 abbrev pub sensingOf : Calibration → Sensing
 sensingOf c = record { «k_s_ta» = c .«k_s_ta»; emissivity = c .emissivity; gain = c .gain }
@@ -30,9 +34,6 @@ compensationOf c = record {
   resolution = c .resolution;
   «temperature_gradient_coefficient» = c .«temperature_gradient_coefficient»;
 }
-
-abbrev pub rangesOf : Calibration → Ranges
-rangesOf c = record { «corner_temperatures» = c .«corner_temperatures»; «k_s_to» = c .«k_s_to» }
 
 -- a corner and its K_sTo, in the next word, over 2 to the power
 abbrev pub rangeAt : List ℕ → ℕ → ℕ → Range

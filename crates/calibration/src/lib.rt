@@ -1,4 +1,6 @@
 // The calibration record: all single values and eight-entry arrays of a card, read off the data of its words.
+pub mod coefficients;
+
 ghost use mathlib.Core.Path.{_≡_};
 ghost use Prim.Native.Nat.{ℕ, _+_, _<_, _≤_};
 ghost use lib.IntN.{pos};
@@ -7,8 +9,9 @@ ghost use Rattle.util.specs.Fields.{signed};
 ghost use Rattle.hamming.specs.Word.{dataValues};
 ghost use Rattle.map.specs.Map.{cardWords};
 ghost use Rattle.card.specs.Inner.{at};
-ghost use Rattle.calibration.specs.Calibration.{lowOver, resolutionOf, calibrationOf, noCalibration};
-ghost use Rattle.calibration.specs.Inner.{sensingOf, referencesOf, ptatOf, compensationOf, rangeAt, rangesOf};
+ghost use Rattle.calibration.specs.Calibration.{lowOver, resolutionOf, rangesOf, calibrationOf, noCalibration};
+ghost use Rattle.calibration.specs.Coefficients.{rangeCount, zeroFactor};
+ghost use Rattle.calibration.specs.Inner.{cardOf, sensingOf, referencesOf, ptatOf, compensationOf, rangeAt};
 use card::Cursor;
 use map::Words;
 
@@ -30,6 +33,7 @@ pub struct Calibration {
     pub k_s_ta: f32,
     pub corner_temperatures: [i16; 8],
     pub k_s_to: [f32; 8],
+    pub range_coefficients: [f32; 8],
     pub emissivity: f32,
     pub alpha_cp: f32,
     pub offset_reference_cp: i16,
@@ -116,7 +120,7 @@ fn corner(value: u16) -> i16
 
 // Words 34 to 37.
 fn read_sensing(words: &Words) -> Sensing
-    ensures { λ r. ⌜ r ≡ sensingOf (calibrationOf (at (now (words .entry)))) ⌝ }
+    ensures { λ r. ⌜ r ≡ sensingOf (cardOf (at (now (words .entry)))) ⌝ }
 {
     let k_s_ta = Cursor { word: map::K_S_TA }.scaled(words, 15);
     let emissivity = k_s_ta.next.scaled(words, 9);
@@ -130,7 +134,7 @@ fn read_sensing(words: &Words) -> Sensing
 
 // Words 38 to 41.
 fn read_references(words: &Words) -> References
-    ensures { λ r. ⌜ r ≡ referencesOf (calibrationOf (at (now (words .entry)))) ⌝ }
+    ensures { λ r. ⌜ r ≡ referencesOf (cardOf (at (now (words .entry)))) ⌝ }
 {
     let v_dd_25 = Cursor { word: map::V_DD_25 }.times_32(words);
     let k_v_dd = v_dd_25.next.times_32(words);
@@ -144,7 +148,7 @@ fn read_references(words: &Words) -> References
 
 // Words 42 to 46.
 fn read_ptat(words: &Words) -> Ptat
-    ensures { λ r. ⌜ r ≡ ptatOf (calibrationOf (at (now (words .entry)))) ⌝ }
+    ensures { λ r. ⌜ r ≡ ptatOf (cardOf (at (now (words .entry)))) ⌝ }
 {
     let k_t_ptat = Cursor {
         word: map::K_T_PTAT,
@@ -163,7 +167,7 @@ fn read_ptat(words: &Words) -> Ptat
 
 // Words 47 to 51.
 fn read_compensation(words: &Words) -> Compensation
-    ensures { λ r. ⌜ r ≡ compensationOf (calibrationOf (at (now (words .entry)))) ⌝ }
+    ensures { λ r. ⌜ r ≡ compensationOf (cardOf (at (now (words .entry)))) ⌝ }
 {
     let offset = Cursor {
         word: map::OFFSET_CP,
@@ -199,7 +203,7 @@ fn read_range(words: &Words, power: u16, start: Cursor) -> Range
 // Words 52 to 63.
 fn read_ranges(words: &Words) -> Ranges
     requires { ⌜ ((k : ℕ) → at (now words) k < dataValues) ⌝ }
-    ensures { λ r. ⌜ r ≡ rangesOf (calibrationOf (at (now (words .entry)))) ⌝ }
+    ensures { λ r. ⌜ r ≡ rangesOf (at (now (words .entry))) ⌝ }
 {
     let scale = Cursor {
         word: map::K_S_TO_SCALE,
@@ -230,10 +234,20 @@ fn read_ranges(words: &Words) -> Ranges
     }
 }
 
-// The record of a card, by the data of its words.
-pub fn read_calibration(words: &Words) -> Calibration
+// The range nearest below the basic one whose coefficient would be divided by zero, or 8; by the data of a card's words.
+pub fn zero_factor(words: &Words, basic_range: usize) -> usize
     requires { ⌜ ((k : ℕ) → at (now words) k < dataValues) ⌝ }
-    ensures { λ r. ⌜ r ≡ calibrationOf (at (now (words .entry))) ⌝ }
+    requires { ⌜ «basic_range» < rangeCount ⌝ }
+    ensures { λ r. ⌜ r ≡ zeroFactor (rangesOf (at (now (words .entry)))) «basic_range» ⌝ }
+{
+    coefficients::zero_factor(read_ranges(words), basic_range)
+}
+
+// The record of a card, by the data of its words and the basic range.
+pub fn read_calibration(words: &Words, basic_range: usize) -> Calibration
+    requires { ⌜ ((k : ℕ) → at (now words) k < dataValues) ⌝ }
+    requires { ⌜ «basic_range» < rangeCount ⌝ }
+    ensures { λ r. ⌜ r ≡ calibrationOf (at (now (words .entry))) «basic_range» ⌝ }
 {
     let sensing = read_sensing(words);
     let references = read_references(words);
@@ -242,6 +256,7 @@ pub fn read_calibration(words: &Words) -> Calibration
     let ranges = read_ranges(words);
     let corner_temperatures = ranges.corner_temperatures;
     let k_s_to = ranges.k_s_to;
+    let range_coefficients = coefficients::coefficients(ranges, basic_range);
     let gradient = compensation.temperature_gradient_coefficient;
     Calibration {
         k_v_dd: references.k_v_dd,
@@ -255,6 +270,7 @@ pub fn read_calibration(words: &Words) -> Calibration
         k_s_ta: sensing.k_s_ta,
         corner_temperatures,
         k_s_to,
+        range_coefficients,
         emissivity: sensing.emissivity,
         alpha_cp: ptat.alpha_cp,
         offset_reference_cp: compensation.offset_reference_cp,
@@ -270,6 +286,7 @@ pub fn no_calibration() -> Calibration
 {
     let corner_temperatures = [0i16; 8];
     let k_s_to = [0.0f32; 8];
+    let range_coefficients = [0.0f32; 8];
     Calibration {
         k_v_dd: 0,
         v_dd_25: 0,
@@ -282,6 +299,7 @@ pub fn no_calibration() -> Calibration
         k_s_ta: 0.0,
         corner_temperatures,
         k_s_to,
+        range_coefficients,
         emissivity: 0.0,
         alpha_cp: 0.0,
         offset_reference_cp: 0,

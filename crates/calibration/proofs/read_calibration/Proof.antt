@@ -12,13 +12,14 @@ use Rattle.calibration.proofs.read_calibration.Tie as tie
 returns : tie.Need-returns
 unfolding calibrationOf
 returns c =
-    let last = c .before .before .before .before in
+    let last = c .before .before .before .before .before in
     let w = at (last .before .before .before .before .before .args .words .now) in
     rw (
       last .before .before .before .before .read-sensing .ensures,
       last .before .before .before .read-references .ensures,
       last .before .before .read-ptat .ensures,
       last .before .read-compensation .ensures,
+      c .before .before .coefficients .ensures,
       last .read-ranges .ensures,
       times-back (single w VDd25),
       times-back (single w KVDd),
@@ -29,6 +30,7 @@ pub read-calibration-spec : {M : Type 1} → statement M
 read-calibration-spec =
     tie.close
     (tie.spec
+    (λ c κs. search needs)
     (λ c κs. search needs)
     (λ c κs. search needs)
     (λ c κs. search needs)

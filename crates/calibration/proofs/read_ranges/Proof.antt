@@ -13,7 +13,7 @@ use Rattle.card.specs.Inner.{at, scaledAt}
 use Rattle.card.specs.declared.Plain.{Plain}
 use Rattle.card.specs.declared.Scaled.{Scaled}
 use Rattle.calibration.specs.declared.Range.{Range}
-use Rattle.calibration.specs.Calibration.{calibrationOf}
+use Rattle.calibration.specs.Calibration.{rangesOf}
 use Rattle.calibration.specs.Inner.{rangeAt}
 use Rattle.calibration.proofs.read_ranges.Statement.{statement}
 use Rattle.calibration.proofs.read_ranges.Tie as tie
@@ -57,7 +57,7 @@ at62 c =
     c .read-range3 .ensures ∙ ap₂ (λ (p : Plain) (r : Range). rangeAt w (p .value) (r .next .word)) (c .before .before .before .before .before .before .before .before .plain .ensures) (at60 (c .before))
 
 returns : tie.Need-returns
-unfolding calibrationOf
+unfolding rangesOf
 returns c =
     let last = c .before .before .before in
     let fifth = last .before .before .before in

@@ -1,0 +1,2 @@
+-- The coefficients by their steps: laws that callers cite.
+pub mod Steps
