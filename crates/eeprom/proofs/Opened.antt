@@ -16,16 +16,18 @@ use Rattle.offsets.specs.Offsets.{scales, offsetScale}
 use Rattle.eeprom.specs.Load.{Tables, dataTests, loadTests, loadVerdict}
 use Rattle.eeprom.specs.Inner.{Passed}
 
-pub opened : (image : List ℕ) (t : Tables) → loadVerdict image t ≡ Pass → Passed (dataAt image) t
+pub opened : (image : List ℕ) (range : ℕ) (t : Tables) → loadVerdict image range t ≡ Pass → Passed (dataAt image) range t
 unfolding loadTests dataTests
-opened image t e =
+opened image range t e =
     let p = passed _ _ _ e in
     let q = passed _ _ _ (p .1) in
     let r = passed _ _ _ (q .1) in
     let s = passed _ _ _ (r .1) in
+    let b = passed _ _ _ (s .1) in
     record {
       small = data-lt image;
       scale = leb-false _ _ (s .0);
+      inside = leb-false _ _ (b .0);
       long = ltb-false _ _ (q .0);
     }
 

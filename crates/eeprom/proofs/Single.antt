@@ -1,4 +1,4 @@
--- What `load` says admits one answer: of two that it says of the same image and tables, each part is the same. Assumes nothing.
+-- What `load` says admits one answer: of two that it says of the same image, basic range and tables, each part is the same. Assumes nothing.
 use Prim.Native.Nat.{ℕ}
 use mathlib.Core.Path.{_≡_, ap, sym, _∙_}
 use mathlib.Core.List.{List}
@@ -18,7 +18,7 @@ whole {r} {q} e f g =
     ∙ ap (λ (c : Calibration). record { verdict = q .verdict; calibration = c; mending = r .mending }) f
     ∙ ap (λ (m : Mending). record { verdict = q .verdict; calibration = q .calibration; mending = m }) g
 
-pub single : {image : List ℕ} {before x y : Tables} {r q : Loaded} → Loads image before x r → Loads image before y q → (r ≡ q) × (x ≡ y)
+pub single : {image : List ℕ} {range : ℕ} {before x y : Tables} {r q : Loaded} → Loads image range before x r → Loads image range before y q → (r ≡ q) × (x ≡ y)
 single p s =
     let e = p .verdict ∙ sym (s .verdict) in
     (whole e (both _ _ e (p .calibration) (s .calibration)) (both _ _ e (p .mending) (s .mending)), both _ _ e (p .lent) (s .lent))

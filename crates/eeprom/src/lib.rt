@@ -1,10 +1,11 @@
 // A card's image to a calibration record and five tables, or a refusal that changes nothing; and two readers of parts.
 ghost use mathlib.Core.Path.{_≡_};
-ghost use Prim.Native.Nat.{min};
+ghost use Prim.Native.Nat.{ℕ, min, _<_};
 ghost use lib.ListN.{length};
 ghost use Rattle.lists.specs.Written.{filled};
 ghost use Rattle.refusal.specs.declared.Verdict.the-variants.{Pass, Refused};
 ghost use Rattle.refusal.specs.Order.{firstOf};
+ghost use Rattle.hamming.specs.Word.{dataValues};
 ghost use Rattle.map.specs.Map.{cardWords};
 ghost use Rattle.card.specs.Card.{dataAt, mendingOf};
 ghost use Rattle.card.specs.Inner.{at};
@@ -13,6 +14,7 @@ ghost use Rattle.eeprom.specs.Load.{tables, filledTables, dataTests, loa
 ghost use Rattle.eeprom.specs.Inner.{Passed};
 ghost use Rattle.eeprom.specs.Parts.{rowOf, first192, offsetsOf};
 use calibration::Calibration;
+use calibration::coefficients::RANGES;
 use card::Mending;
 use map::IMAGE_BYTES;
 use map::PIXELS;
@@ -53,13 +55,21 @@ fn shortest_of(offsets0: usize, offsets1: usize, alpha: usize, k_v: usize, k_ta:
     )
 }
 
-// Refusal 4, of the data of a card's words.
-fn data_gate(words: &Words) -> Verdict
-    ensures { λ r. ⌜ r ≡ firstOf (dataTests (at (now (words .entry)))) ⌝ }
+// Refusals 4, 6 and 13, of the data of a card's words and the basic range.
+fn data_gate(words: &Words, basic_range: usize) -> Verdict
+    requires { ⌜ ((k : ℕ) → at (now words) k < dataValues) ⌝ }
+    ensures { λ r. ⌜ r ≡ firstOf (dataTests (at (now (words .entry))) «basic_range») ⌝ }
 {
     let scale = offsets::offset_scale(words);
     if SCALES <= scale {
         return Verdict::Refused(Refusal::LargeScale { scale });
+    }
+    if RANGES <= basic_range {
+        return Verdict::Refused(Refusal::BasicRange { range: basic_range });
+    }
+    let range = calibration::zero_factor(words, basic_range);
+    if range < RANGES {
+        return Verdict::Refused(Refusal::ZeroFactor { range });
     }
     Verdict::Pass
 }
@@ -74,9 +84,9 @@ fn stopped(refusal: Refusal) -> Gated
 }
 
 // All that stops a load, lowest number first. Where nothing does, `words` has the data of the card's words, and those mended are counted.
-fn gate(image: &[u8], table: usize, words: &mut Words) -> Gated
+fn gate(image: &[u8], basic_range: usize, table: usize, words: &mut Words) -> Gated
     requires { ⌜ length (now words) ≡ cardWords ⌝ }
-    ensures { λ r. ⌜ r .verdict ≡ firstOf (loadTests (now (image .entry)) table) ⌝ }
+    ensures { λ r. ⌜ r .verdict ≡ firstOf (loadTests (now (image .entry)) «basic_range» table) ⌝ }
     ensures { λ r. ⌜ (r .verdict ≡ Pass → (r .mending ≡ mendingOf (now (image .entry))) × (now (words .exit) ≡ filled (dataAt (now (image .entry))) cardWords (now (words .entry)))) ⌝ }
 {
     let length = image.len();
@@ -94,7 +104,7 @@ fn gate(image: &[u8], table: usize, words: &mut Words) -> Gated
         return stopped(Refusal::DamagedWord { word, bits });
     }
     Gated {
-        verdict: data_gate(words),
+        verdict: data_gate(words, basic_range),
         mending,
     }
 }
@@ -102,14 +112,15 @@ fn gate(image: &[u8], table: usize, words: &mut Words) -> Gated
 // The five tables and the record, from the data of words that the gate let through.
 fn fill_all(
     words: &Words,
+    basic_range: usize,
     offsets0: &mut [Offset],
     offsets1: &mut [Offset],
     alpha: &mut [f32],
     k_v: &mut [f32],
     k_ta: &mut [f32],
 ) -> Calibration
-    requires { ⌜ Passed (at (now words)) (tables (now offsets0) (now offsets1) (now alpha) (now «k_v») (now «k_ta»)) ⌝ }
-    ensures { λ r. ⌜ r ≡ calibrationOf (at (now (words .entry))) ⌝ }
+    requires { ⌜ Passed (at (now words)) «basic_range» (tables (now offsets0) (now offsets1) (now alpha) (now «k_v») (now «k_ta»)) ⌝ }
+    ensures { λ r. ⌜ r ≡ calibrationOf (at (now (words .entry))) «basic_range» ⌝ }
     ensures { λ _. ⌜ tables (now (offsets0 .exit)) (now (offsets1 .exit)) (now (alpha .exit)) (now («k_v» .exit)) (now («k_ta» .exit))
         ≡ filledTables (at (now (words .entry))) (tables (now (offsets0 .entry)) (now (offsets1 .entry)) (now (alpha .entry)) (now («k_v» .entry)) (now («k_ta» .entry))) ⌝ }
 {
@@ -118,19 +129,20 @@ fn fill_all(
     tables::fill_alpha(words, alpha);
     tables::fill_k(words, K::KV, k_v);
     tables::fill_k(words, K::KTa, k_ta);
-    calibration::read_calibration(words)
+    calibration::read_calibration(words, basic_range)
 }
 
-// Loads a card: checking is complete before the first entry is written.
+// Loads a card, whose range coefficients begin at the basic range: checking is complete before the first entry is written.
 pub fn load(
     image: &[u8],
+    basic_range: usize,
     offsets0: &mut [Offset],
     offsets1: &mut [Offset],
     alpha: &mut [f32],
     k_v: &mut [f32],
     k_ta: &mut [f32],
 ) -> Loaded
-    ensures { λ r. ⌜ Loads (now (image .entry)) (tables (now (offsets0 .entry)) (now (offsets1 .entry)) (now (alpha .entry)) (now («k_v» .entry)) (now («k_ta» .entry)))
+    ensures { λ r. ⌜ Loads (now (image .entry)) «basic_range» (tables (now (offsets0 .entry)) (now (offsets1 .entry)) (now (alpha .entry)) (now («k_v» .entry)) (now («k_ta» .entry)))
         (tables (now (offsets0 .exit)) (now (offsets1 .exit)) (now (alpha .exit)) (now («k_v» .exit)) (now («k_ta» .exit))) r ⌝ }
 {
     let table = shortest_of(
@@ -141,7 +153,7 @@ pub fn load(
         k_ta.len(),
     );
     let mut words = [0u16; WORDS];
-    let gated = gate(image, table, &mut words);
+    let gated = gate(image, basic_range, table, &mut words);
     let verdict = gated.verdict;
     let mending = gated.mending;
     let Verdict::Pass = verdict else {
@@ -152,7 +164,7 @@ pub fn load(
             mending: card::no_mending(),
         };
     };
-    let calibration = fill_all(&words, offsets0, offsets1, alpha, k_v, k_ta);
+    let calibration = fill_all(&words, basic_range, offsets0, offsets1, alpha, k_v, k_ta);
     Loaded {
         verdict,
         calibration,

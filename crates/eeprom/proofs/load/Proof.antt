@@ -20,18 +20,21 @@ module _ (c : tie.After-gate) where
   abbrev image : List ℕ
   image = start .args .image .now
 
+  abbrev range : ℕ
+  range = start .args .basic-range
+
   abbrev lent : Tables
   lent = let a = start .args in tables (a .offsets0 .now) (a .offsets1 .now) (a .alpha .now) (a .k-v .now) (a .k-ta .now)
 
-  gated : c .gate .result .verdict ≡ loadVerdict image lent
+  gated : c .gate .result .verdict ≡ loadVerdict image range lent
   gated = rw (c .before .before .shortest-of .ensures) at (c .gate .ensures .0)
 
   module _ (e : c .gate .result .verdict ≡ Pass) where
-    words : at (c .gate .last .1 .1 .0) ≡ dataAt image
+    words : at (c .gate .last .1 .1 .1 .0) ≡ dataAt image
     words = ap at (c .gate .ensures .1 e .1) ∙ words-are image _ (search needs)
 
-    passed : Passed (at (c .gate .last .1 .1 .0)) lent
-    passed = subst (λ (w : ℕ → ℕ). Passed w lent) (sym words) (opened image lent (sym gated ∙ e))
+    passed : Passed (at (c .gate .last .1 .1 .1 .0)) range lent
+    passed = subst (λ (w : ℕ → ℕ). Passed w range lent) (sym words) (opened image range lent (sym gated ∙ e))
 
 returns : tie.Need-returns
 returns c =
