@@ -1,4 +1,4 @@
--- A card that was read and written again loads as before: the same answer, and the same tables. Assumes nothing.
+-- A card that was read and written again loads as before, with any basic range: the same answer, and the same tables. Assumes nothing.
 use Prim.Native.Nat.{ℕ, _≤_}
 use mathlib.Core.Path.{_≡_, sym, ap, _∙_}
 use mathlib.Core.List.{List, _∷_}
@@ -23,27 +23,27 @@ use Rattle.writer.specs.Round.{firsts}
 use Rattle.writer.proofs.Round.{none-damaged, back-data, held-after, length-after, taken}
 
 -- of a whole card without damage, what is left to test
-rest-of : (image : List ℕ) (table : ℕ) → imageBytes ≤ length image → cardWords ≤ firstDamaged image
-    → firstOf (loadTests image table) ≡ firstOf (ltb table framePixels refuses ShortTable ∷ dataTests (dataAt image))
+rest-of : (image : List ℕ) (range table : ℕ) → imageBytes ≤ length image → cardWords ≤ firstDamaged image
+    → firstOf (loadTests image range table) ≡ firstOf (ltb table framePixels refuses ShortTable ∷ dataTests (dataAt image) range)
 unfolding loadTests firstOf
-rest-of image table h n = simp (le-ltb _ _ h, le-ltb _ _ n)
+rest-of image range table h n = simp (le-ltb _ _ h, le-ltb _ _ n)
 
 -- so two with the same data load alike
 module _ (image other : List ℕ) (e : dataAt other ≡ dataAt image) (h : imageBytes ≤ length image) (k : imageBytes ≤ length other)
     (n : cardWords ≤ firstDamaged image) (m : cardWords ≤ firstDamaged other) where
-  same-verdict : (t : Tables) → loadVerdict other t ≡ loadVerdict image t
-  same-verdict t =
-      rest-of other (shortest t) k m
-      ∙ ap (λ (w : ℕ → ℕ). firstOf (ltb (shortest t) framePixels refuses ShortTable ∷ dataTests w)) e
-      ∙ sym (rest-of image (shortest t) h n)
+  same-verdict : (range : ℕ) (t : Tables) → loadVerdict other range t ≡ loadVerdict image range t
+  same-verdict range t =
+      rest-of other range (shortest t) k m
+      ∙ ap (λ (w : ℕ → ℕ). firstOf (ltb (shortest t) framePixels refuses ShortTable ∷ dataTests w range)) e
+      ∙ sym (rest-of image range (shortest t) h n)
 
-  same-load : {t x y : Tables} {q s : Loaded} → Loads image t x q → Loads other t y s → (s .verdict ≡ q .verdict) × (s .calibration ≡ q .calibration) × (y ≡ x)
-  same-load {t} {x} {y} {q} {s} p o =
-      let v : s .verdict ≡ q .verdict = o .verdict ∙ same-verdict t ∙ sym (p .verdict) in (
+  same-load : {range : ℕ} {t x y : Tables} {q s : Loaded} → Loads image range t x q → Loads other range t y s → (s .verdict ≡ q .verdict) × (s .calibration ≡ q .calibration) × (y ≡ x)
+  same-load {range} {t} {x} {y} {q} {s} p o =
+      let v : s .verdict ≡ q .verdict = o .verdict ∙ same-verdict range t ∙ sym (p .verdict) in (
         v,
         o .calibration
-            ∙ ap (λ (z : Verdict). unless z (calibrationOf (dataAt other)) noCalibration) v
-            ∙ ap (λ (w : ℕ → ℕ). unless (q .verdict) (calibrationOf w) noCalibration) e
+            ∙ ap (λ (z : Verdict). unless z (calibrationOf (dataAt other) range) noCalibration) v
+            ∙ ap (λ (w : ℕ → ℕ). unless (q .verdict) (calibrationOf w range) noCalibration) e
             ∙ sym (p .calibration),
         o .lent
             ∙ ap (λ (z : Verdict). unless z (filledTables (dataAt other) t) t) v
@@ -52,7 +52,7 @@ module _ (image other : List ℕ) (e : dataAt other ≡ dataAt image) (h : image
       )
 
 pub back-loads : {image before after : List ℕ} {b a : Lists} {r : Verdict} → Reads image b a Pass → imageBytes ≤ length before → Writes (firsts a) before after r
-    → {t x y : Tables} {q s : Loaded} → Loads image t x q → Loads after t y s → (s .verdict ≡ q .verdict) × (s .calibration ≡ q .calibration) × (y ≡ x)
+    → {range : ℕ} {t x y : Tables} {q s : Loaded} → Loads image range t x q → Loads after range t y s → (s .verdict ≡ q .verdict) × (s .calibration ≡ q .calibration) × (y ≡ x)
 back-loads {image} {before} {after} {b} {a} d l w p o =
     let t = taken d l w in
     same-load image after (back-data d l w) (t .image-long) (length-after d l w) (t .none)
