@@ -1,10 +1,11 @@
 """What document 01 says of a card, in Python, as document 02 mends it: the chip word, and what a load answers. Written from that document alone, apart from the crates,
-to make cards and expected lines with. A number is a Fraction, or None for infinity; nothing here gives a zero below zero."""
+to make cards and expected lines with. A number is a Fraction, or None for infinity; only range coefficients may be a zero below zero."""
 from fractions import Fraction
 
 WORDS = 832
 BYTES = 1664
 ENTRIES = 192
+BASIC = 2
 MASKS = (0x055B, 0x066D, 0x078E, 0x07F0)
 
 
@@ -108,7 +109,7 @@ def mending(image):
     return len(stray), (stray or [WORDS])[-1]
 
 
-def verdict(image, shortest=ENTRIES):
+def verdict(image, shortest=ENTRIES, basic=BASIC):
     """Number, place and value."""
     if len(image) < BYTES:
         return 1, len(image), 0
@@ -119,6 +120,11 @@ def verdict(image, shortest=ENTRIES):
         return 3, w.index(None), words_of(image)[w.index(None)]
     if w[16] >> 5 >= 21:
         return 4, w[16] >> 5, 0
+    if basic > 7:
+        return 6, basic, 0
+    for range_ in reversed(range(basic)):
+        if growth(w, range_) == 0:
+            return 13, range_, 0
     return 0, 0, 0
 
 
@@ -154,6 +160,37 @@ def k_v(image, pixel):
 def alpha_cp(image):
     w = data_of(image)
     return over(w[45], w[46])
+
+
+# ---- Range coefficients: document 02, CR 9
+
+def k_s_to(w, range_):
+    return over(signed(11, w[53 + range_] if range_ < 5 else w[59 + 2 * (range_ - 5)]), w[52])
+
+
+def corner(w, range_):
+    return (-40, -20, 0, 80, 120)[range_] if range_ < 5 else w[58 + 2 * (range_ - 5)]
+
+
+def growth(w, range_):
+    """1 + K × (T next - T own)."""
+    return rounded(1 + rounded(k_s_to(w, range_) * (corner(w, range_ + 1) - corner(w, range_))))
+
+
+def range_coefficients(image, basic):
+    """The bits of all eight, worked out as sign and magnitude."""
+    w = data_of(image)
+    coefficients = [None] * 8
+    coefficients[basic] = False, Fraction(1)
+    for range_ in range(basic + 1, 8):
+        below, magnitude = coefficients[range_ - 1]
+        factor = growth(w, range_ - 1)
+        coefficients[range_] = below != (factor < 0), rounded(magnitude * abs(factor))
+    for range_ in reversed(range(basic)):
+        below, magnitude = coefficients[range_ + 1]
+        factor = growth(w, range_)
+        coefficients[range_] = below != (factor < 0), rounded(magnitude / abs(factor))
+    return [bits(magnitude) | below << 31 for below, magnitude in coefficients]
 
 
 # ---- A burn

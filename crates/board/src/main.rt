@@ -6,6 +6,9 @@ use libc::STDIN_FILENO;
 use libc::STDOUT_FILENO;
 use offsets::Offset;
 
+// The camera's basic temperature range, by the crate.
+const BASIC_RANGE: usize = 2;
+
 fn tab_number(n: u64) {
     io::write_all(STDOUT_FILENO, b"\t");
     io::print_decimal(STDOUT_FILENO, n);
@@ -38,6 +41,7 @@ fn run(image: &[u8]) -> Loaded {
     let mut k_ta = [0.0f32; 192];
     eeprom::load(
         image,
+        BASIC_RANGE,
         &mut offsets0,
         &mut offsets1,
         &mut alpha,

@@ -33,13 +33,13 @@ pub struct Calibration {
     pub k_s_ta: f32,
     pub corner_temperatures: [i16; 8],
     pub k_s_to: [f32; 8],
-    pub range_coefficients: [f32; 8],
     pub emissivity: f32,
     pub alpha_cp: f32,
     pub offset_reference_cp: i16,
     pub k_v_cp: f32,
     pub k_ta_cp: f32,
     pub temperature_gradient_coefficient: Gradient,
+    pub range_coefficients: [f32; 8],
 }
 
 // What words 34 to 37 hold.
@@ -270,13 +270,13 @@ pub fn read_calibration(words: &Words, basic_range: usize) -> Calibration
         k_s_ta: sensing.k_s_ta,
         corner_temperatures,
         k_s_to,
-        range_coefficients,
         emissivity: sensing.emissivity,
         alpha_cp: ptat.alpha_cp,
         offset_reference_cp: compensation.offset_reference_cp,
         k_v_cp: compensation.k_v_cp,
         k_ta_cp: compensation.k_ta_cp,
         temperature_gradient_coefficient: gradient,
+        range_coefficients,
     }
 }
 
@@ -299,12 +299,12 @@ pub fn no_calibration() -> Calibration
         k_s_ta: 0.0,
         corner_temperatures,
         k_s_to,
-        range_coefficients,
         emissivity: 0.0,
         alpha_cp: 0.0,
         offset_reference_cp: 0,
         k_v_cp: 0.0,
         k_ta_cp: 0.0,
         temperature_gradient_coefficient: Gradient::Missing,
+        range_coefficients,
     }
 }

@@ -99,6 +99,7 @@ pub fn record(gradient: Gradient) -> Calibration {
         k_v_cp: 0.40625,
         k_ta_cp: 0.00439453125,
         temperature_gradient_coefficient: gradient,
+        range_coefficients: [1.0; 8],
     }
 }
 

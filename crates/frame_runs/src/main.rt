@@ -139,6 +139,7 @@ fn all_zero() {
     let mut k_ta = [77.0f32; 200];
     let got = eeprom::load(
         &image,
+        2,
         &mut offsets0,
         &mut offsets1,
         &mut alpha,

@@ -113,6 +113,11 @@ fn kept_real(table: &[f32; 200]) -> u64 {
 
 // The first `size` bytes of an image, into tables of which `short` has 191 entries (6: all have 200).
 pub fn watched(label: &[u8], image: &Image, size: usize, short: u8) {
+    watched_from(label, image, size, short, stored::BASIC_RANGE);
+}
+
+// The same, from a basic range.
+pub fn watched_from(label: &[u8], image: &Image, size: usize, short: u8, basic_range: usize) {
     let mut offsets0: [Offset; 200] = [77; 200];
     let mut offsets1: [Offset; 200] = [77; 200];
     let mut alpha = [77.0f32; 200];
@@ -127,6 +132,7 @@ pub fn watched(label: &[u8], image: &Image, size: usize, short: u8) {
     ];
     let got = stored::load_parts(
         stored::bytes(image, 0, size),
+        basic_range,
         lengths,
         &mut offsets0,
         &mut offsets1,
@@ -161,6 +167,7 @@ pub fn with_offset(label: &[u8], image: &Image, entry: usize) {
     let mut k_ta = [77.0f32; 192];
     let got = eeprom::load(
         image,
+        stored::BASIC_RANGE,
         &mut offsets0,
         &mut offsets1,
         &mut alpha,
@@ -183,6 +190,7 @@ pub fn with_numbers(label: &[u8], image: &Image, pixel: usize) {
     let mut k_ta = [77.0f32; 192];
     let got = eeprom::load(
         image,
+        stored::BASIC_RANGE,
         &mut offsets0,
         &mut offsets1,
         &mut alpha,
@@ -197,6 +205,41 @@ pub fn with_numbers(label: &[u8], image: &Image, pixel: usize) {
     tab_bits(k_v[at]);
     tab_bits(k_ta[at]);
     tab_bits(record.alpha_cp);
+    line_end();
+}
+
+// ---- Range coefficients: the answer, and the bits of all eight
+
+fn tab_eight(list: [f32; 8]) {
+    tab_bits(list[0]);
+    tab_bits(list[1]);
+    tab_bits(list[2]);
+    tab_bits(list[3]);
+    tab_bits(list[4]);
+    tab_bits(list[5]);
+    tab_bits(list[6]);
+    tab_bits(list[7]);
+}
+
+pub fn with_coefficients(label: &[u8], image: &Image, basic_range: usize) {
+    let mut offsets0: [Offset; 192] = [77; 192];
+    let mut offsets1: [Offset; 192] = [77; 192];
+    let mut alpha = [77.0f32; 192];
+    let mut k_v = [77.0f32; 192];
+    let mut k_ta = [77.0f32; 192];
+    let got = eeprom::load(
+        image,
+        basic_range,
+        &mut offsets0,
+        &mut offsets1,
+        &mut alpha,
+        &mut k_v,
+        &mut k_ta,
+    );
+    let verdict = got.verdict;
+    let record = got.calibration;
+    line_start(label, verdict);
+    tab_eight(record.range_coefficients);
     line_end();
 }
 

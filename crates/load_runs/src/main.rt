@@ -65,23 +65,36 @@ fn damage() {
 
 // ---- Two refusals at once: the lower number is told
 
-// The first `size` bytes of the image that has these bits in word 830 and this offset scale. Wrong are the bits 3 and the scale 21.
-fn two(label: &[u8], size: usize, short: u8, late: u16, scale: u16) {
+// The first `size` bytes of the image that has these bits in word 830, this offset scale, and 0 as the growth of range 4. Wrong are the bits 3, the
+// scale 21, and of basic ranges 5 (the divisor of range 4's coefficient is 0) and 8.
+fn two(label: &[u8], size: usize, short: u8, late: u16, scale: u16, basic_range: usize) {
     let mut image = [0u8; 1665];
     load_case::put(&mut image, 830, late);
     load_case::put_scale(&mut image, scale, 0);
-    load_case::watched(label, &image, size, short);
+    load_case::put_data(&mut image, 57, 2047);
+    load_case::put_data(&mut image, 58, 121);
+    load_case::watched_from(label, &image, size, short, basic_range);
 }
 
 fn pairs() {
-    two(b"1 and 2", 1663, 3, 0, 20);
-    two(b"1 and 3", 1663, 6, 3, 20);
-    two(b"1 and 4", 1663, 6, 0, 21);
-    two(b"2 and 3", 1664, 5, 3, 20);
-    two(b"2 and 4", 1664, 4, 0, 21);
-    two(b"3 and 4", 1664, 6, 3, 21);
-    two(b"1 to 4", 1663, 1, 3, 21);
-    two(b"none of 1 to 4", 1664, 6, 0, 20);
+    two(b"1 and 2", 1663, 3, 0, 20, 2);
+    two(b"1 and 3", 1663, 6, 3, 20, 2);
+    two(b"1 and 4", 1663, 6, 0, 21, 2);
+    two(b"1 and 6", 1663, 6, 0, 20, 8);
+    two(b"1 and 13", 1663, 6, 0, 20, 5);
+    two(b"2 and 3", 1664, 5, 3, 20, 2);
+    two(b"2 and 4", 1664, 4, 0, 21, 2);
+    two(b"2 and 6", 1664, 3, 0, 20, 8);
+    two(b"2 and 13", 1664, 2, 0, 20, 5);
+    two(b"3 and 4", 1664, 6, 3, 21, 2);
+    two(b"3 and 6", 1664, 6, 3, 20, 8);
+    two(b"3 and 13", 1664, 6, 3, 20, 5);
+    two(b"4 and 6", 1664, 6, 0, 21, 8);
+    two(b"4 and 13", 1664, 6, 0, 21, 5);
+    two(b"6 and 13", 1664, 6, 0, 20, 8);
+    two(b"13 alone", 1664, 6, 0, 20, 5);
+    two(b"1 to 6", 1663, 1, 3, 21, 8);
+    two(b"none of them", 1664, 6, 0, 20, 2);
 }
 
 // ---- Offsets
@@ -203,6 +216,81 @@ fn numbers() {
     largest_scales();
 }
 
+// ---- Range coefficients
+
+// Corners 160, 300 and 500, and K_sTo in 2^-15, all different.
+fn put_ranges(image: &mut Image) {
+    load_case::put_data(image, 52, 15);
+    load_case::put_data(image, 53, 2028);
+    load_case::put_data(image, 54, 2031);
+    load_case::put_data(image, 55, 2017);
+    load_case::put_data(image, 56, 2041);
+    load_case::put_data(image, 57, 11);
+    load_case::put_data(image, 58, 160);
+    load_case::put_data(image, 59, 2045);
+    load_case::put_data(image, 60, 300);
+    load_case::put_data(image, 61, 2035);
+    load_case::put_data(image, 62, 500);
+    load_case::put_data(image, 63, 23);
+}
+
+// Every basic range, and two that aren't any.
+fn each_range() {
+    let mut image = [0u8; 1665];
+    put_ranges(&mut image);
+    load_case::with_coefficients(b"range 0", &image, 0);
+    load_case::with_coefficients(b"range 1", &image, 1);
+    load_case::with_coefficients(b"range 2", &image, 2);
+    load_case::with_coefficients(b"range 3", &image, 3);
+    load_case::with_coefficients(b"range 4", &image, 4);
+    load_case::with_coefficients(b"range 5", &image, 5);
+    load_case::with_coefficients(b"range 6", &image, 6);
+    load_case::with_coefficients(b"range 7", &image, 7);
+    load_case::with_coefficients(b"range 8", &image, 8);
+    load_case::with_coefficients(b"range 2^64 - 1", &image, 18446744073709551615);
+}
+
+// The growth of ranges 4 and 5 is 0, that of range 6 is 121 less the last corner.
+fn zeros(label: &[u8], last: u16, basic_range: usize) {
+    let mut image = [0u8; 1665];
+    load_case::put_data(&mut image, 57, 2047);
+    load_case::put_data(&mut image, 58, 121);
+    load_case::put_data(&mut image, 59, 1);
+    load_case::put_data(&mut image, 60, 120);
+    load_case::put_data(&mut image, 61, 2047);
+    load_case::put_data(&mut image, 62, last);
+    load_case::with_coefficients(label, &image, basic_range);
+}
+
+// Divisors below the basic range are refused, the nearest first; factors above it are not.
+fn zero_factors() {
+    zeros(b"zeros below 7", 119, 7);
+    zeros(b"zeros below 6", 119, 6);
+    zeros(b"zero below 5", 119, 5);
+    zeros(b"zeros above 4", 119, 4);
+    zeros(b"zeros above 4, then below 0", 125, 4);
+    zeros(b"zeros above 2", 119, 2);
+    zeros(b"zero nearest below 7", 121, 7);
+}
+
+// Two words of K_sTo -1, over 2^scale.
+fn steep(label: &[u8], scale: u16, basic_range: usize) {
+    let mut image = [0u8; 1665];
+    load_case::put_data(&mut image, 52, scale);
+    load_case::put_data(&mut image, 53, 2047);
+    load_case::put_data(&mut image, 54, 2047);
+    load_case::with_coefficients(label, &image, basic_range);
+}
+
+// In the first the crate's coefficient of range 0 is one place higher.
+fn coefficients() {
+    each_range();
+    zero_factors();
+    steep(b"-1 twice", 0, 2);
+    steep(b"-1 over 2^127 twice", 127, 2);
+    steep(b"-1 over 2^128 twice", 128, 2);
+}
+
 // ---- Readers of parts
 
 // Rows 0 to 5 are words 256 to 287, and so on to 416 to 447.
@@ -244,6 +332,7 @@ fn main() {
     pairs();
     offsets();
     numbers();
+    coefficients();
     rows();
     subpages();
 }

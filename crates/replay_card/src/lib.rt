@@ -28,7 +28,16 @@ pub fn load(
         stored::size_at(block, 6),
         stored::size_at(block, 8),
     ];
-    stored::load_parts(image, lengths, offsets0, offsets1, alpha, k_v, k_ta)
+    stored::load_parts(
+        image,
+        stored::BASIC_RANGE,
+        lengths,
+        offsets0,
+        offsets1,
+        alpha,
+        k_v,
+        k_ta,
+    )
 }
 
 fn verdict_same(head: &[u8], verdict: Verdict) -> bool {
@@ -144,7 +153,7 @@ fn k_s_to_of(block: &[u8]) -> [f32; 8] {
     ]
 }
 
-// No frame reads the corners.
+// No frame of the stream reads the corners or the range coefficients.
 pub fn record_of(block: &[u8]) -> Calibration {
     let k_s_to = k_s_to_of(block);
     let gradient = gradient_of(block);
@@ -166,6 +175,7 @@ pub fn record_of(block: &[u8]) -> Calibration {
         k_v_cp: stored::real_at(block, 32),
         k_ta_cp: stored::real_at(block, 36),
         temperature_gradient_coefficient: gradient,
+        range_coefficients: [0.0; 8],
     }
 }
 

@@ -25,6 +25,9 @@ pub const ONE_PASS: u8 = 8;
 
 pub const STREAM: u8 = 9;
 
+// The camera's basic temperature range, by the crate.
+pub const BASIC_RANGE: usize = 2;
+
 // ---- Numbers, upper byte first. Past the end of a block every byte is 0
 
 pub fn byte_at(block: &[u8], at: usize) -> u8 {
@@ -103,6 +106,7 @@ pub fn bytes(block: &[u8], from: usize, n: usize) -> &[u8] {
 // A load into the first so many entries of each table, or into all that it has.
 pub fn load_parts(
     image: &[u8],
+    basic_range: usize,
     lengths: [usize; 5],
     offsets0: &mut [Offset],
     offsets1: &mut [Offset],
@@ -117,6 +121,7 @@ pub fn load_parts(
     let n5 = util::least(lengths[4], k_ta.len());
     eeprom::load(
         image,
+        basic_range,
         &mut offsets0[..n1],
         &mut offsets1[..n2],
         &mut alpha[..n3],
