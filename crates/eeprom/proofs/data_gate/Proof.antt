@@ -17,9 +17,9 @@ use Rattle.eeprom.proofs.data_gate.Tie as tie
 
 -- the tests, line by line
 module _ (w : ℕ → ℕ) (range : ℕ) where
-  large-scale : scales ≤ offsetScale w → Refused (LargeScale (offsetScale w)) ≡ firstOf (dataTests w range)
+  large-scale : (scale : ℕ) → scale ≡ offsetScale w → scales ≤ scale → Refused (LargeScale scale) ≡ firstOf (dataTests w range)
   unfolding dataTests firstOf
-  large-scale h = simp (le-leb _ _ h)
+  large-scale scale e h = simp (e, le-leb _ _ (rw e at h))
 
   module _ (s : offsetScale w < scales) where
     no-range : rangeCount ≤ range → Refused (BasicRange range) ≡ firstOf (dataTests w range)
@@ -40,10 +40,7 @@ small : (c : tie.Else1) → offsetScale (at (c .before .before .args .words .now
 small c = let e = c .before .offset-scale .ensures in omega arith
 
 returns : tie.Need-returns
-returns c =
-    let a = c .before .before .args in
-    let e = c .before .offset-scale .ensures in
-    rw e (large-scale (at (a .words .now)) (a .basic-range) (rw e at (c .if1 .taken)))
+returns c = let a = c .before .before .args in large-scale (at (a .words .now)) (a .basic-range) _ (c .before .offset-scale .ensures) (c .if1 .taken)
 
 returns-2 : tie.Need-returns-2
 returns-2 c = let a = c .before .before .before .args in no-range (at (a .words .now)) (a .basic-range) (small (c .before)) (c .if2 .taken)
