@@ -2,10 +2,8 @@
 ghost use mathlib.Core.Path.{_≡_};
 ghost use Prim.Native.Nat.{_<_, _≤_};
 ghost use Rattle.calibration.specs.Coefficients.{rangeCount, growth, coefficientAt, coefficientsOf, zeroFactor};
+use super::RANGES;
 use super::Ranges;
-
-// How many ranges there are.
-pub const RANGES: usize = 8;
 
 // 1 + K × (T next - T own) of a range that has a next one.
 fn growth(ranges: Ranges, range: usize) -> f32

@@ -1,5 +1,5 @@
 // The calibration record: all single values and eight-entry arrays of a card, read off the data of its words.
-pub mod coefficients;
+mod coefficients;
 
 ghost use mathlib.Core.Path.{_≡_};
 ghost use Prim.Native.Nat.{ℕ, _+_, _<_, _≤_};
@@ -14,6 +14,9 @@ ghost use Rattle.calibration.specs.Coefficients.{rangeCount, zeroFactor}
 ghost use Rattle.calibration.specs.Inner.{cardOf, sensingOf, referencesOf, ptatOf, compensationOf, rangeAt};
 use card::Cursor;
 use map::Words;
+
+// How many temperature ranges there are.
+pub const RANGES: usize = 8;
 
 // The temperature gradient: a coefficient or none. This chip always gives one, even 0.
 pub enum Gradient {

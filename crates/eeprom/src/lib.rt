@@ -14,7 +14,7 @@ ghost use Rattle.eeprom.specs.Load.{tables, filledTables, dataTests, loa
 ghost use Rattle.eeprom.specs.Inner.{Passed};
 ghost use Rattle.eeprom.specs.Parts.{rowOf, first192, offsetsOf};
 use calibration::Calibration;
-use calibration::coefficients::RANGES;
+use calibration::RANGES;
 use card::Mending;
 use map::IMAGE_BYTES;
 use map::PIXELS;
