@@ -238,8 +238,9 @@ pub fn with_coefficients(label: &[u8], image: &Image, basic_range: usize) {
     );
     let verdict = got.verdict;
     let record = got.calibration;
+    let coefficients = record.range_coefficients;
     line_start(label, verdict);
-    tab_eight(record.range_coefficients);
+    tab_eight(coefficients);
     line_end();
 }
 
