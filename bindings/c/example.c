@@ -7,8 +7,8 @@
 #include <string.h>
 
 /* What the archive hands over, on a processor of 64 bits. */
-_Static_assert(sizeof(loamchalice_word) == 32 && sizeof(loamchalice_part) == 16 && sizeof(loamchalice_record) == 100, "layout");
-_Static_assert(sizeof(loamchalice_loaded) == 144 && sizeof(loamchalice_ram) == 10 && sizeof(loamchalice_answer) == 40 && sizeof(loamchalice_step) == 40, "layout");
+_Static_assert(sizeof(loamchalice_word) == 32 && sizeof(loamchalice_part) == 16 && sizeof(loamchalice_record) == 132, "layout");
+_Static_assert(sizeof(loamchalice_loaded) == 176 && sizeof(loamchalice_ram) == 10 && sizeof(loamchalice_answer) == 40 && sizeof(loamchalice_step) == 40, "layout");
 _Static_assert(sizeof(loamchalice_mlx90640_six_ten) == 4 && sizeof(loamchalice_mlx90640_unsigned) == 4 && sizeof(loamchalice_mlx90640_signed) == 4, "layout");
 _Static_assert(sizeof(loamchalice_mlx90640_access) == 36 && sizeof(loamchalice_mlx90640_entry) == 32, "layout");
 
@@ -32,7 +32,8 @@ int main(int argc, char **argv) {
     }
     size_t length = fread(image, 1, sizeof image, card);
     fclose(card);
-    loamchalice_loaded loaded = loamchalice_load(image, length, offsets0, 192, offsets1, 192, alpha, 192, k_v, 192, k_ta, 192);
+    loamchalice_loaded loaded =
+        loamchalice_load(image, length, LOAMCHALICE_BASIC_RANGE, offsets0, 192, offsets1, 192, alpha, 192, k_v, 192, k_ta, 192);
     if (loaded.number != 0) {
         fprintf(stderr, "card refused: %d at %lu, value %lu\n", (int)loaded.number, (unsigned long)loaded.place, (unsigned long)loaded.value);
         return 1;
@@ -51,7 +52,7 @@ int main(int argc, char **argv) {
         mask[i] = 1;
     }
     loamchalice_answer frame = loamchalice_raw_pixels_to_temperatures(
-        loaded.calibration, 0.95f, 1.0f, 3.3f, ram, 0, 2, 0, 5.0f, offsets0, 192, offsets1, 192, alpha, 192, k_v, 192, k_ta, 192,
+        loaded.calibration, 0.95f, 1.0f, 3.3f, ram, 0, LOAMCHALICE_BASIC_RANGE, 0, 5.0f, offsets0, 192, offsets1, 192, alpha, 192, k_v, 192, k_ta, 192,
         pixels, sizeof pixels, mask, sizeof mask, picture, 192);
     if (frame.number != 0) {
         fprintf(stderr, "frame refused: %d at %lu\n", (int)frame.number, (unsigned long)frame.place);

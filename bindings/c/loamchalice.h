@@ -19,6 +19,7 @@
  *  10  pixel bytes below 384, destination below 192 or mask   place: its length
  *      below 192; tested after 2 and before 6
  *  11  the wanted image has another unchecked word           place: the word's number
+ *  13  what a range coefficient is divided by is zero        place: its range, the nearest below the basic one
  *  14  the MLX90640 has no such pixel: 768 or more           place: the pixel
  *
  * Pixels are floats lent as their bits, uint32_t: the same size and alignment as float. Every not-a-number that a call writes is 0x7FC00000. */
@@ -37,6 +38,7 @@ extern "C" {
 #define LOAMCHALICE_CHECKED_WORDS 814
 #define LOAMCHALICE_UNCHECKED_WORDS 18
 #define LOAMCHALICE_PIXELS 192
+#define LOAMCHALICE_BASIC_RANGE 2
 #define LOAMCHALICE_NOT_A_NUMBER 0x7FC00000u
 
 typedef struct {
@@ -56,6 +58,7 @@ typedef struct {
     int16_t corner_temperatures[8];
     int16_t k_v_dd, v_dd_25, offset_reference_cp;
     uint8_t resolution, has_gradient;
+    float range_coefficients[8]; /* 1 at the basic range that the card was loaded with */
 } loamchalice_record;
 
 /* A card that goes bad tells so: `mended` checked words had a flipped bit, of which `last_mended` is the last. */
@@ -98,9 +101,10 @@ loamchalice_word loamchalice_check(uint16_t word);
 /* The fourth root of x, as its bits: two square roots, each the nearest float. */
 uint32_t loamchalice_root(float x);
 
-/* Loads a card into five tables of 192 entries or more; entries past 192 stay. Refusals 1 to 4. */
+/* Loads a card into five tables of 192 entries or more; entries past 192 stay. The camera's basic range is LOAMCHALICE_BASIC_RANGE. Refusals 1 to 4, 6,
+ * 13. */
 loamchalice_loaded loamchalice_load(
-    const uint8_t *image, size_t image_length,
+    const uint8_t *image, size_t image_length, size_t basic_range,
     int32_t *offsets0, size_t offsets0_length, int32_t *offsets1, size_t offsets1_length,
     float *alpha, size_t alpha_length, float *k_v, size_t k_v_length, float *k_ta, size_t k_ta_length);
 

@@ -39,6 +39,7 @@ pub struct Record {
     pub offset_reference_cp: i16,
     pub resolution: u8,
     pub has_gradient: u8,
+    pub range_coefficients: [f32; 8],
 }
 
 #[repr(C)]
@@ -146,8 +147,8 @@ pub struct Average {
 // What the archive hands over, on a processor of 64 bits.
 const _: () = {
     use std::mem::size_of;
-    assert!(size_of::<Word>() == 32 && size_of::<Part>() == 16 && size_of::<Record>() == 100);
-    assert!(size_of::<Load>() == 144 && size_of::<Ram>() == 10 && size_of::<Answer>() == 40 && size_of::<Outcome>() == 24);
+    assert!(size_of::<Word>() == 32 && size_of::<Part>() == 16 && size_of::<Record>() == 132);
+    assert!(size_of::<Load>() == 176 && size_of::<Ram>() == 10 && size_of::<Answer>() == 40 && size_of::<Outcome>() == 24);
     assert!(size_of::<Step>() == 40 && size_of::<Filter>() == 40 && size_of::<Average>() == 8);
     assert!(size_of::<SixTen>() == 4 && size_of::<Unsigned>() == 4 && size_of::<Signed>() == 4);
     assert!(size_of::<AccessPattern>() == 36 && size_of::<PixelEntry>() == 32);
@@ -169,8 +170,9 @@ extern "C" {
     fn loamchalice_next_step(present: *const u8, present_length: usize, wanted: *const u8, wanted_length: usize) -> Step;
     fn loamchalice_burn(present: *mut u8, present_length: usize, wanted: *const u8, wanted_length: usize) -> Step;
     fn loamchalice_load(
-        image: *const u8, length: usize, offsets0: *mut i32, offsets0_length: usize, offsets1: *mut i32, offsets1_length: usize,
-        alpha: *mut f32, alpha_length: usize, k_v: *mut f32, k_v_length: usize, k_ta: *mut f32, k_ta_length: usize,
+        image: *const u8, length: usize, basic_range: usize,
+        offsets0: *mut i32, offsets0_length: usize, offsets1: *mut i32, offsets1_length: usize, alpha: *mut f32, alpha_length: usize,
+        k_v: *mut f32, k_v_length: usize, k_ta: *mut f32, k_ta_length: usize,
     ) -> Load;
     fn loamchalice_raw_pixels_to_ir_data(
         calibration: Record, emissivity: f32, resolution_correction: f32, v_dd_0: f32, ram: Ram, subpage: u8,
@@ -272,11 +274,12 @@ pub fn burn(present: &mut [u8], wanted: &[u8]) -> Step {
     unsafe { loamchalice_burn(present.as_mut_ptr(), present.len(), wanted.as_ptr(), wanted.len()) }
 }
 
-pub fn load(image: &[u8], [zero, one]: [&mut [i32]; 2], alpha: &mut [f32], k_v: &mut [f32], k_ta: &mut [f32]) -> Load {
+pub fn load(image: &[u8], basic_range: usize, [zero, one]: [&mut [i32]; 2], alpha: &mut [f32], k_v: &mut [f32], k_ta: &mut [f32]) -> Load {
     unsafe {
         loamchalice_load(
             image.as_ptr(),
             image.len(),
+            basic_range,
             zero.as_mut_ptr(),
             zero.len(),
             one.as_mut_ptr(),

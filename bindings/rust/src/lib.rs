@@ -65,9 +65,12 @@ pub struct Settings {
 
 impl Default for Settings {
     fn default() -> Self {
-        Settings { emissivity: 1.0, resolution_correction: 1.0, v_dd_0: 3.3, basic_range: 2, self_heating: 5.0, reflected: None }
+        Settings { emissivity: 1.0, resolution_correction: 1.0, v_dd_0: 3.3, basic_range: BASIC_RANGE, self_heating: 5.0, reflected: None }
     }
 }
+
+/// The camera's basic temperature range, by mlx9064x.
+pub const BASIC_RANGE: usize = 2;
 
 /// What a frame gives beside its pixels.
 #[derive(Clone, Copy, Debug, PartialEq)]
@@ -214,7 +217,7 @@ pub struct Calibration {
 }
 
 impl Calibration {
-    /// Loads a card's image: 1,664 bytes, what follows is ignored. Refusals 1, 3, 4.
+    /// Loads a card's image with the camera's [`BASIC_RANGE`]: 1,664 bytes, what follows is ignored. Refusals 1, 3, 4.
     ///
     /// ```
     /// use loamchalice::{Calibration, Refusal};
@@ -222,9 +225,22 @@ impl Calibration {
     /// assert_eq!(short.err(), Some(Refusal::ShortImage { length: 1663 }));
     /// ```
     pub fn from_data(image: &[u8]) -> Result<Self, Refusal> {
+        Self::from_data_in(image, BASIC_RANGE)
+    }
+
+    /// The same with another basic range, 0 to 7, which the range coefficients begin at. Refusals 1, 3, 4, 6, 13.
+    ///
+    /// ```
+    /// use loamchalice::{Calibration, Refusal};
+    /// let card = include_bytes!("../../../cards/sound.bin");
+    /// assert_eq!(Calibration::from_data_in(card, 3)?.range_coefficients()[3], 1.0);
+    /// assert_eq!(Calibration::from_data_in(card, 8).err(), Some(Refusal::BasicRange { range: 8 }));
+    /// # Ok::<(), Refusal>(())
+    /// ```
+    pub fn from_data_in(image: &[u8], basic_range: usize) -> Result<Self, Refusal> {
         let (mut offsets, mut alpha, mut k_v, mut k_ta) = ([[0; 192]; 2], [0.0; 192], [0.0; 192], [0.0; 192]);
         let [zero, one] = &mut offsets;
-        let loaded = border::load(image, [zero, one], &mut alpha, &mut k_v, &mut k_ta);
+        let loaded = border::load(image, basic_range, [zero, one], &mut alpha, &mut k_v, &mut k_ta);
         match Refusal::of(loaded.number, loaded.place, loaded.value) {
             Some(refusal) => Err(refusal),
             None => {
@@ -264,6 +280,11 @@ impl Calibration {
     /// The corner temperatures of the eight ranges.
     pub fn corner_temperatures(&self) -> &[i16; 8] {
         &self.record.corner_temperatures
+    }
+
+    /// The coefficients of the eight ranges: 1 at the basic range that the card was loaded with.
+    pub fn range_coefficients(&self) -> &[f32; 8] {
+        &self.record.range_coefficients
     }
 
     /// The offsets of a subpage.

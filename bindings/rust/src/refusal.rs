@@ -26,6 +26,10 @@ pub enum Refusal {
     ShortFrame { length: usize },
     /// 11: the wanted image has another unchecked word than the present one.
     UncheckedWord { word: usize },
+    /// 12: this corner temperature is not above the one before it. No call refuses by it yet.
+    UnorderedCorners { corner: usize },
+    /// 13: what this range's coefficient is divided by is zero.
+    ZeroFactor { range: usize },
     /// 14: the pixel number is 768 or more, which the MLX90640 does not have.
     PixelNumber { pixel: usize },
 }
@@ -47,12 +51,14 @@ impl Refusal {
             9 => Refusal::ListedDataTooLarge { index: at, data: value as u16 },
             10 => Refusal::ShortFrame { length: at },
             11 => Refusal::UncheckedWord { word: at },
+            12 => Refusal::UnorderedCorners { corner: at },
+            13 => Refusal::ZeroFactor { range: at },
             14 => Refusal::PixelNumber { pixel: at },
             _ => unreachable!("the library has no such refusal"),
         })
     }
 
-    /// 1 to 4, 6 to 11, or 14; 5 is no longer used.
+    /// 1 to 4, or 6 to 14; 5 is no longer used.
     pub fn number(self) -> u64 {
         match self {
             Refusal::ShortImage { .. } => 1,
@@ -65,6 +71,8 @@ impl Refusal {
             Refusal::DataTooLarge { .. } | Refusal::ListedDataTooLarge { .. } => 9,
             Refusal::ShortFrame { .. } => 10,
             Refusal::UncheckedWord { .. } => 11,
+            Refusal::UnorderedCorners { .. } => 12,
+            Refusal::ZeroFactor { .. } => 13,
             Refusal::PixelNumber { .. } => 14,
         }
     }
@@ -75,7 +83,8 @@ impl Refusal {
             Refusal::ShortImage { length } => length as u64,
             Refusal::DamagedWord { word, .. } | Refusal::UncheckedWord { word } => word as u64,
             Refusal::OffsetScale { scale } => scale.into(),
-            Refusal::BasicRange { range } => range as u64,
+            Refusal::BasicRange { range } | Refusal::ZeroFactor { range } => range as u64,
+            Refusal::UnorderedCorners { corner } => corner as u64,
             Refusal::DataTooLarge { data } => data.into(),
             Refusal::ListedDataTooLarge { index, .. } => index as u64,
             Refusal::ShortFrame { length } => length as u64,
@@ -109,6 +118,8 @@ impl fmt::Display for Refusal {
             Refusal::ListedDataTooLarge { index, data } => write!(f, "entry {index} of the data is {data}, above 2047"),
             Refusal::ShortFrame { length } => write!(f, "{length} is too short for a frame's pixel bytes, destination or mask"),
             Refusal::UncheckedWord { word } => write!(f, "unchecked word {word} is another in the wanted image"),
+            Refusal::UnorderedCorners { corner } => write!(f, "corner temperature {corner} is not above the one before it"),
+            Refusal::ZeroFactor { range } => write!(f, "the coefficient of range {range} would be divided by zero"),
             Refusal::PixelNumber { pixel } => write!(f, "there is no pixel {pixel}, only 0 to 767"),
         }
     }

@@ -133,6 +133,28 @@ fn a_changed_word_is_loaded() {
     assert_eq!(refused.to_string(), "refusal 9: entry 813 of the data is 2048, above 2047");
 }
 
+// A wiped card with these data; a checked word from 21 on stands 18 entries earlier in their list.
+fn with_words(words: &[(usize, u16)]) -> Vec<u8> {
+    let mut card = Card::words(&[0; 1664]).unwrap();
+    for (word, data) in words {
+        card.data[word - 18] = *data;
+    }
+    card.write().unwrap().to_vec()
+}
+
+#[test]
+fn range_coefficients_begin_at_the_basic_range() {
+    let steep = Calibration::from_data(&with_words(&[(53, 2047), (54, 2047)])).unwrap();
+    let bits = steep.range_coefficients().map(f32::to_bits);
+    assert_eq!(bits[..3], [0x3B35_8A48, 0xBD57_9436, 0x3F80_0000]);
+    let zero = with_words(&[(57, 2047), (58, 121)]);
+    let refused = Calibration::from_data_in(&zero, 5).unwrap_err();
+    assert_eq!((refused.number(), refused.place(), refused.value()), (13, 4, 0));
+    assert_eq!(refused.to_string(), "refusal 13: the coefficient of range 4 would be divided by zero");
+    assert_eq!(Calibration::from_data_in(&zero, 4).unwrap().range_coefficients(), &[1.0, 1.0, 1.0, 1.0, 1.0, 0.0, 0.0, 0.0]);
+    assert_eq!(Calibration::from_data_in(&zero, 8).err(), Some(Refusal::BasicRange { range: 8 }));
+}
+
 #[test]
 fn burns_are_refused_and_change_nothing() {
     let told = |r: Refusal| (r.number(), r.place(), r.value());

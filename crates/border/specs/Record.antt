@@ -37,6 +37,7 @@ recordOut c = record {
   «offset_reference_cp» = c .«offset_reference_cp»;
   resolution = c .resolution;
   «has_gradient» = gradientOut (c .«temperature_gradient_coefficient») .has;
+  «range_coefficients» = c .«range_coefficients»;
 }
 
 -- the flag 0 is no gradient
@@ -62,6 +63,7 @@ recordIn c = record {
   «k_v_cp» = c .«k_v_cp»;
   «k_ta_cp» = c .«k_ta_cp»;
   «temperature_gradient_coefficient» = gradientIn (c .«has_gradient») (c .gradient);
+  «range_coefficients» = c .«range_coefficients»;
 }
 
 -- 0 is the first subpage, any other number the second

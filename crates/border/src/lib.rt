@@ -26,6 +26,7 @@ pub struct Record {
     pub offset_reference_cp: i16,
     pub resolution: u8,
     pub has_gradient: u8,
+    pub range_coefficients: [f32; 8],
 }
 
 // The gradient as a flag and a coefficient.
@@ -57,6 +58,7 @@ pub fn record_out(calibration: Calibration) -> Record
     let flag = gradient_out(gradient);
     let k_s_to = calibration.k_s_to;
     let corner_temperatures = calibration.corner_temperatures;
+    let range_coefficients = calibration.range_coefficients;
     Record {
         k_v_ptat: calibration.k_v_ptat,
         k_t_ptat: calibration.k_t_ptat,
@@ -76,6 +78,7 @@ pub fn record_out(calibration: Calibration) -> Record
         offset_reference_cp: calibration.offset_reference_cp,
         resolution: calibration.resolution,
         has_gradient: flag.has,
+        range_coefficients,
     }
 }
 
@@ -96,6 +99,7 @@ pub fn record_in(calibration: Record) -> Calibration
     let gradient = gradient_in(calibration.has_gradient, calibration.gradient);
     let k_s_to = calibration.k_s_to;
     let corner_temperatures = calibration.corner_temperatures;
+    let range_coefficients = calibration.range_coefficients;
     Calibration {
         k_v_dd: calibration.k_v_dd,
         v_dd_25: calibration.v_dd_25,
@@ -114,6 +118,7 @@ pub fn record_in(calibration: Record) -> Calibration
         k_v_cp: calibration.k_v_cp,
         k_ta_cp: calibration.k_ta_cp,
         temperature_gradient_coefficient: gradient,
+        range_coefficients,
     }
 }
 

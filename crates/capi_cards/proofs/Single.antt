@@ -11,7 +11,7 @@ use Rattle.capi_cards.specs.declared.Load.{Load}
 use Rattle.capi_cards.specs.declared.Outcome.{Outcome}
 use Rattle.capi_cards.specs.Border.{loadedOut, outcomeOf, Loading, Writing, Reading}
 
-pub single-loading : {image : List ℕ} {before x y : Tables} {r q : Load} → Loading image before x r → Loading image before y q → (r ≡ q) × (x ≡ y)
+pub single-loading : {image : List ℕ} {range : ℕ} {before x y : Tables} {r q : Load} → Loading image range before x r → Loading image range before y q → (r ≡ q) × (x ≡ y)
 single-loading p s =
     let e = eeprom.single (p .loads) (s .loads) in
     (p .out ∙ ap loadedOut (e .0) ∙ sym (s .out), e .1)

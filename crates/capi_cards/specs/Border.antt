@@ -29,10 +29,10 @@ loadedOut l = record {
   calibration = recordOut (l .calibration);
 }
 
--- what the inner load says of the image, the tables before and after, and an answer; and C has that answer
-pub record Loading (image : List ℕ) (before after : Tables) (r : Load) : Type 0 where
+-- what the inner load says of the image, the basic range, the tables before and after, and an answer; and C has that answer
+pub record Loading (image : List ℕ) (range : ℕ) (before after : Tables) (r : Load) : Type 0 where
   pub inner : Loaded
-  pub loads : Loads image before after inner
+  pub loads : Loads image range before after inner
   pub out : r ≡ loadedOut inner
 
 abbrev pub outcomeOf : Verdict → Outcome

@@ -37,20 +37,22 @@ pub struct Part {
     pub length: usize,
 }
 
-// Loads a card. Refusals 1 to 4; after one the tables are as before. Entries past 192 stay.
+// Loads a card, whose range coefficients begin at the basic range. Refusals 1 to 4, 6 and 13; after one the tables are as before. Entries past 192
+// stay.
 #[no_mangle]
 pub extern "C" fn loamchalice_load(
     image: &[u8],
+    basic_range: usize,
     offsets0: &mut [Offset],
     offsets1: &mut [Offset],
     alpha: &mut [f32],
     k_v: &mut [f32],
     k_ta: &mut [f32],
 ) -> Load
-    ensures { λ r. ⌜ Loading (now (image .entry)) (tables (now (offsets0 .entry)) (now (offsets1 .entry)) (now (alpha .entry)) (now («k_v» .entry)) (now («k_ta» .entry)))
+    ensures { λ r. ⌜ Loading (now (image .entry)) «basic_range» (tables (now (offsets0 .entry)) (now (offsets1 .entry)) (now (alpha .entry)) (now («k_v» .entry)) (now («k_ta» .entry)))
         (tables (now (offsets0 .exit)) (now (offsets1 .exit)) (now (alpha .exit)) (now («k_v» .exit)) (now («k_ta» .exit))) r ⌝ }
 {
-    let loaded = eeprom::load(image, offsets0, offsets1, alpha, k_v, k_ta);
+    let loaded = eeprom::load(image, basic_range, offsets0, offsets1, alpha, k_v, k_ta);
     let verdict = loaded.verdict;
     let inner = loaded.calibration;
     let mending = loaded.mending;
