@@ -1,8 +1,8 @@
 //! Cards: the record and the tables against the crate as published, refusals against document 01 and the crate's errors and panics.
 //! Where the crate's offset average is not the papers', or its 16 bits don't hold an offset on the way, document.rs judges verdict and offsets,
-//! and the crate the rest.
+//! and the crate the rest. The crate judges range coefficients 1 to 7 of its own basic range, document.rs all eight of any.
 use crate::document::{self, Code, Data, Verdict};
-use crate::library::{self, Load, Record, Tables};
+use crate::library::{self, Load, Record, Tables, BASIC};
 use crate::numbers::Numbers;
 use crate::tally::{of_crate, progress, Tally};
 use mlx9064x::error::LibraryError;
@@ -268,6 +268,23 @@ pub fn made(n: &mut Numbers) -> (&'static str, Vec<u8>) {
     }
 }
 
+// A realistic card with corners a power of two apart, up or down, and K_sTo such that the growth of ranges 4, 5 and 6 is often 0.
+fn zero_growths(n: &mut Numbers) -> (&'static str, Vec<u8>) {
+    let mut w = realistic(n);
+    let scale = n.below(10) as u32;
+    w[52] = scale as u16;
+    let mut corner = 120;
+    for k in [57, 59, 61] {
+        let power = n.below(scale as usize + 1) as u32;
+        let up = corner < 1 << power || corner < 1024 && n.one_in(2);
+        let k_s_to = 1 << (scale - power);
+        corner += if up { 1 << power } else { -(1 << power) };
+        w[k] = bits11(if up { -k_s_to } else { k_s_to } + if n.one_in(3) { n.between(-1, 1) } else { 0 });
+        w[k + 1] = corner as u16;
+    }
+    ("growths of zero", image_of(&w))
+}
+
 /// The crate's record.
 pub fn record_of(c: &Mlx90641Calibration) -> Record {
     let gradient = c.temperature_gradient_coefficient();
@@ -290,6 +307,7 @@ pub fn record_of(c: &Mlx90641Calibration) -> Record {
         offset_reference_cp: c.offset_reference_cp(Subpage::Zero),
         resolution: c.resolution(),
         has_gradient: u8::from(gradient.is_some()),
+        range_coefficients: c.alpha_correction().try_into().expect("eight ranges"),
     }
 }
 
@@ -349,7 +367,7 @@ fn offsets_by_papers(data: &Data) -> [Vec<i32>; 2] {
 }
 
 // The first field or entry in which a good load differs from the crate's record and tables, and from the offsets.
-fn difference(c: &Mlx90641Calibration, offsets: &[Vec<i32>; 2], r: &Record, t: &Tables) -> Option<String> {
+fn difference(c: &Mlx90641Calibration, basic: usize, offsets: &[Vec<i32>; 2], r: &Record, t: &Tables) -> Option<String> {
     let whole = [
         ("k_v_dd", c.k_v_dd(), r.k_v_dd),
         ("v_dd_25", c.v_dd_25(), r.v_dd_25),
@@ -382,10 +400,12 @@ fn difference(c: &Mlx90641Calibration, offsets: &[Vec<i32>; 2], r: &Record, t: &
         return Some(format!("corners: crate {:?}, library {:?}", c.corner_temperatures(), r.corner_temperatures));
     }
     let listed = c.k_s_to().iter().zip(&r.k_s_to).map(|(a, b)| ("k_s_to", *a, *b));
+    let coefficients = c.alpha_correction()[1..].iter().zip(&r.range_coefficients[1..]).map(|(a, b)| ("range coefficient", *a, *b));
+    let coefficients = coefficients.filter(|_| basic == BASIC);
     let alpha = c.alpha_pixels(Subpage::Zero).zip(&t.alpha).map(|(a, b)| ("alpha", *a, *b));
     let k_v = c.k_v_pixels(Subpage::One).zip(&t.k_v).map(|(a, b)| ("k_v", *a, *b));
     let k_ta = c.k_ta_pixels(Subpage::One).zip(&t.k_ta).map(|(a, b)| ("k_ta", *a, *b));
-    for (k, (name, a, b)) in single.into_iter().chain(listed).chain(alpha).chain(k_v).chain(k_ta).enumerate() {
+    for (k, (name, a, b)) in single.into_iter().chain(listed).chain(coefficients).chain(alpha).chain(k_v).chain(k_ta).enumerate() {
         if !same(a, b) {
             return Some(format!("{name} (number {k}): crate {a:?} 0x{:08X}, library {b:?} 0x{:08X}", a.to_bits(), b.to_bits()));
         }
@@ -403,7 +423,7 @@ fn difference(c: &Mlx90641Calibration, offsets: &[Vec<i32>; 2], r: &Record, t: &
 
 fn all_zero(r: &Record) -> bool {
     let floats = [r.k_v_ptat, r.k_t_ptat, r.v_ptat_25, r.alpha_ptat, r.gain, r.k_s_ta, r.emissivity, r.alpha_cp, r.k_v_cp, r.k_ta_cp, r.gradient];
-    floats.iter().chain(&r.k_s_to).all(|x| x.to_bits() == 0)
+    floats.iter().chain(&r.k_s_to).chain(&r.range_coefficients).all(|x| x.to_bits() == 0)
         && r.corner_temperatures == [0; 8]
         && (r.k_v_dd, r.v_dd_25, r.offset_reference_cp, r.resolution, r.has_gradient) == (0, 0, 0, 0, 0)
 }
@@ -413,6 +433,7 @@ fn all_zero(r: &Record) -> bool {
 fn fits(code: &Code, image: &[u8], verdict: Verdict, answer: &Option<Result<Mlx90641Calibration, LibraryError>>) -> (bool, &'static str) {
     match (verdict.0, answer) {
         (0, Some(Ok(_))) => (true, "crate good"),
+        (6 | 13, _) => (true, "crate not asked: it has one basic range"),
         (2, _) => (true, "crate not asked: it has no such tables"),
         (1, Some(Err(LibraryError::Checksum(_)))) => (true, "crate error: damage before the end"),
         (1, None) => (true, "crate panics"),
@@ -451,16 +472,17 @@ pub fn ask(code: &Code, image: &[u8], verdict: Verdict) -> Asked {
         let offsets = (verdict.0 == 0).then(|| offsets_by_papers(&data));
         return Asked { answer, offsets, as_expected: true, did, oracle: Oracle::Papers };
     }
-    let answer = if verdict.0 == 2 { None } else { load(image) };
+    let answer = if matches!(verdict.0, 2 | 6 | 13) { None } else { load(image) };
     let (as_expected, did) = fits(code, image, verdict, &answer);
     let offsets = if let Some(Ok(c)) = &answer { Some(offsets_of(c)) } else { None };
     Asked { answer, offsets, as_expected, did, oracle: Oracle::Crate }
 }
 
-fn judge(tally: &mut Tally, code: &Code, class: &str, image: &[u8], before: &Tables, label: &str) {
+// Of any basic range: what else the crate loads doesn't depend on it.
+fn judge_in(tally: &mut Tally, code: &Code, class: &str, image: &[u8], basic: usize, before: &Tables, label: &str) {
     let mut after = before.clone();
-    let loaded: Load = library::load(image, &mut after);
-    let verdict = code.load(image, before.shortest());
+    let loaded: Load = library::load(image, basic, &mut after);
+    let verdict = code.load(image, basic, before.shortest());
     let Asked { answer, offsets, as_expected, did, oracle } = ask(code, image, verdict);
     let number = verdict.0;
     tally.count(if oracle == Oracle::Crate { "cards, the crate is the oracle" } else { "cards, the papers judge verdict and offsets" });
@@ -488,13 +510,34 @@ fn judge(tally: &mut Tally, code: &Code, class: &str, image: &[u8], before: &Tab
         return;
     }
     if let (Some(Ok(c)), Some(offsets)) = (&answer, &offsets) {
-        if let Some(what) = difference(c, offsets, &loaded.calibration, &after) {
+        if let Some(what) = difference(c, basic, offsets, &loaded.calibration, &after) {
             tally.disagree(|| format!("{label}, {class}: {what}"));
         }
+        judge_coefficients(tally, code, c, image, basic, &loaded.calibration, label);
         let odd = after.alpha[..192].iter().chain(&after.k_v[..192]).chain(&after.k_ta[..192]).filter(|x| !x.is_finite()).count();
         tally.add("card entries that are infinite or not a number", odd as u64);
     } else {
         tally.disagree(|| format!("{label}, {class}: loads, and the crate has no record to compare"));
+    }
+}
+
+fn judge(tally: &mut Tally, code: &Code, class: &str, image: &[u8], before: &Tables, label: &str) {
+    judge_in(tally, code, class, image, BASIC, before, label);
+}
+
+// All eight by document.rs; and how often the crate's of range 0, by a reciprocal, is another.
+fn judge_coefficients(tally: &mut Tally, code: &Code, c: &Mlx90641Calibration, image: &[u8], basic: usize, r: &Record, label: &str) {
+    let expected = document::coefficients(&code.data(image).expect("a card that loads"), basic);
+    if expected.iter().zip(&r.range_coefficients).any(|(a, b)| !same(*a, *b)) {
+        tally.disagree(|| format!("{label}: range coefficients from {basic}: {expected:?} by document 02, library {:?}", r.range_coefficients));
+    }
+    tally.count(&format!("range coefficients, basic range {basic}"));
+    if expected.iter().any(|x| *x == 0.0) {
+        tally.count("range coefficients with a zero");
+    }
+    if basic == BASIC {
+        let apart = (i64::from(c.alpha_correction()[0].to_bits()) - i64::from(expected[0].to_bits())).abs();
+        tally.count(&format!("range coefficient 0 of the crate, by places apart: {}", apart.min(2)));
     }
 }
 
@@ -550,12 +593,19 @@ fn faults_in_pairs(tally: &mut Tally, code: &Code, good: &[u8], tables: &Tables)
         5 => put(image, 17, 0x0003),
         _ => {}
     };
+    // From basic range 6 on, the divisor of range 5's coefficient is zero too.
+    let mut zero = good.to_vec();
+    for (word, data) in [(52, 0), (57, 2047), (58, 121), (59, 2047), (60, 122)] {
+        put(&mut zero, word, document::encode(data));
+    }
     for a in 0..6 {
         for b in 0..6 {
-            let (mut image, mut t) = (good.to_vec(), tables.clone());
-            fault(a, &mut image, &mut t);
-            fault(b, &mut image, &mut t);
-            judge(tally, code, "faults in pairs", &image, &t, &format!("faults {a} and {b}"));
+            for basic in (0..10).chain([usize::MAX]) {
+                let (mut image, mut t) = (if basic < 3 { good.to_vec() } else { zero.clone() }, tables.clone());
+                fault(a, &mut image, &mut t);
+                fault(b, &mut image, &mut t);
+                judge_in(tally, code, "faults in pairs", &image, basic, &t, &format!("faults {a} and {b}, basic range {basic}"));
+            }
         }
     }
 }
@@ -566,7 +616,7 @@ pub fn compare(tally: &mut Tally, seed: u64, cards: u64) {
     for k in 0..cards {
         progress("cards", k, cards);
         let mut n = Numbers::new(seed.wrapping_mul(0x1_0000_0001).wrapping_add(k).wrapping_mul(2));
-        let (class, image) = made(&mut n);
+        let (class, image) = if n.one_in(8) { zero_growths(&mut n) } else { made(&mut n) };
         let mut tables = blank_tables(&mut n);
         if n.one_in(50) {
             let short = n.below(192);
@@ -578,6 +628,7 @@ pub fn compare(tally: &mut Tally, seed: u64, cards: u64) {
                 _ => tables.k_ta.truncate(short),
             }
         }
-        judge(tally, &code, class, &image, &tables, &format!("card {k} of seed {seed}"));
+        let basic = if n.one_in(2) { BASIC } else { n.below(9) };
+        judge_in(tally, &code, class, &image, basic, &tables, &format!("card {k} of seed {seed}, basic range {basic}"));
     }
 }

@@ -73,8 +73,8 @@ impl Code {
         Ok(data)
     }
 
-    /// What stops a load.
-    pub fn load(&self, image: &[u8], shortest: usize) -> Verdict {
+    /// What stops a load with a basic range.
+    pub fn load(&self, image: &[u8], basic: usize, shortest: usize) -> Verdict {
         if image.len() < 1664 {
             return (1, image.len() as u64, 0);
         }
@@ -89,7 +89,13 @@ impl Code {
         if scale >= 21 {
             return (4, u64::from(scale), 0);
         }
-        (0, 0, 0)
+        if basic > 7 {
+            return (6, basic as u64, 0);
+        }
+        match (0..basic).rev().find(|range| growth(&data, *range) == 0.0) {
+            Some(range) => (13, range as u64, 0),
+            None => (0, 0, 0),
+        }
     }
 }
 
@@ -114,6 +120,38 @@ pub fn average(data: &Data) -> i32 {
 
 pub fn offset(data: &Data, entry: usize) -> i32 {
     average(data) + product(data, entry)
+}
+
+/// K_sTo of a range.
+fn k_s_to(data: &Data, range: usize) -> f32 {
+    let raw = if range < 5 { data[53 + range] } else { data[59 + 2 * (range - 5)] };
+    let power = if data[52] < 128 { f32::from_bits((u32::from(data[52]) + 127) << 23) } else { f32::INFINITY };
+    signed(11, raw) as f32 / power
+}
+
+fn corner(data: &Data, range: usize) -> i32 {
+    if range < 5 {
+        [-40, -20, 0, 80, 120][range]
+    } else {
+        i32::from(data[58 + 2 * (range - 5)])
+    }
+}
+
+/// 1 + K × (T next - T own).
+fn growth(data: &Data, range: usize) -> f32 {
+    1.0 + k_s_to(data, range) * (corner(data, range + 1) - corner(data, range)) as f32
+}
+
+/// The range coefficients by document 02: 1 at the basic range, above it by the one below, below it by the one above.
+pub fn coefficients(data: &Data, basic: usize) -> [f32; 8] {
+    let mut coefficients = [1.0; 8];
+    for range in basic..7 {
+        coefficients[range + 1] = coefficients[range] * growth(data, range);
+    }
+    for range in (0..basic).rev() {
+        coefficients[range] = coefficients[range + 1] / growth(data, range);
+    }
+    coefficients
 }
 
 pub fn signed(width: u32, x: u16) -> i32 {

@@ -144,9 +144,12 @@ pub fn subpage_offsets(zero: &[i32], one: &[i32], subpage: u8) -> Part {
     border::subpage_offsets([zero, one], subpage)
 }
 
-pub fn load(image: &[u8], tables: &mut Tables) -> Load {
+/// The crate's basic range.
+pub const BASIC: usize = 2;
+
+pub fn load(image: &[u8], basic: usize, tables: &mut Tables) -> Load {
     let [zero, one] = &mut tables.offsets;
-    let mut answer = border::load(image, [zero, one], &mut tables.alpha, &mut tables.k_v, &mut tables.k_ta);
+    let mut answer = border::load(image, basic, [zero, one], &mut tables.alpha, &mut tables.k_v, &mut tables.k_ta);
     if planted("alpha-last-place") && answer.number == 0 {
         tables.alpha[17] = f32::from_bits(tables.alpha[17].to_bits() ^ 1);
     }
@@ -170,6 +173,23 @@ pub fn load(image: &[u8], tables: &mut Tables) -> Load {
     }
     if planted("corner") && answer.number == 0 {
         answer.calibration.corner_temperatures[7] += 1;
+    }
+    if planted("coefficient-by-a-reciprocal") && answer.number == 0 && basic == 2 {
+        let r = &mut answer.calibration;
+        let growth = |n: usize| 1.0 + r.k_s_to[n] * f32::from(r.corner_temperatures[n + 1] - r.corner_temperatures[n]);
+        r.range_coefficients[0] = growth(0).recip() * r.range_coefficients[1];
+    }
+    if planted("coefficient-7-last-place") && answer.number == 0 && basic == 2 {
+        answer.calibration.range_coefficients[7] = f32::from_bits(answer.calibration.range_coefficients[7].to_bits() ^ 1);
+    }
+    if planted("zero-factor-farthest") && answer.number == 13 && answer.place > 4 {
+        answer.place = 4;
+    }
+    if planted("zero-factor-place") && answer.number == 13 {
+        answer.place = basic as u64;
+    }
+    if planted("coefficients-from-range-2") && answer.number == 0 && basic == 7 {
+        answer.calibration.range_coefficients = [1.0; 8];
     }
     answer
 }

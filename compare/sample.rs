@@ -178,7 +178,7 @@ const FULL: [usize; 5] = [192; 5];
 
 fn card(s: &mut Stream, code: &Code, class: &str, image: &[u8], lengths: [usize; 5]) {
     let image = &image[..image.len().min(IMAGE)];
-    let verdict = code.load(image, lengths.into_iter().min().unwrap_or(0));
+    let verdict = code.load(image, library::BASIC, lengths.into_iter().min().unwrap_or(0));
     let asked = cards::ask(code, image, verdict);
     let says = asked.did;
     assert!(asked.as_expected, "{class}: document {verdict:?}, {says}");

@@ -74,7 +74,7 @@ subject!(rooted, mlx9064x_rooted);
 
 fn frames() -> Vec<Frame> {
     let mut tables = Tables { offsets: [vec![0; 192], vec![0; 192]], alpha: vec![0.0; 192], k_v: vec![0.0; 192], k_ta: vec![0.0; 192] };
-    let loaded = library::load(IMAGE, &mut tables);
+    let loaded = library::load(IMAGE, library::BASIC, &mut tables);
     assert_eq!(loaded.number, 0);
     let mut state = 1u32;
     let mut next = || {
@@ -165,7 +165,7 @@ fn main() {
         let load = &mut least[3];
         keep(&mut load[0], time(LOADS, |_| { black_box(published::load(black_box(IMAGE))); }));
         keep(&mut load[1], time(LOADS, |_| { black_box(rooted::load(black_box(IMAGE))); }));
-        keep(&mut load[2], time(LOADS, |_| { black_box(library::load(black_box(IMAGE), black_box(&mut tables))); }));
+        keep(&mut load[2], time(LOADS, |_| { black_box(library::load(black_box(IMAGE), library::BASIC, black_box(&mut tables))); }));
         for (words, check) in words.iter().zip(&mut least[4..]) {
             let each = words.len() as f64;
             keep(&mut check[0], time(SWEEPS, |_| words.iter().for_each(|&word| { black_box(published::check(word)); })) / each);
