@@ -39,24 +39,27 @@ module _ (w : ℕ → ℕ) (range : ℕ) where
 small : (c : tie.Else1) → offsetScale (at (c .before .before .args .words .now)) < scales
 small c = let e = c .before .offset-scale .ensures in omega arith
 
+inside : (c : tie.Else2) → c .before .before .before .args .basic-range < rangeCount
+inside c = omega arith
+
 returns : tie.Need-returns
-returns c = let a = c .before .before .args in large-scale (at (a .words .now)) (a .basic-range) _ (c .before .offset-scale .ensures) (c .if1 .taken)
+returns c = let a = c .before .before .args in large-scale (at (a .words .now)) (a .basic-range) _ (c .before .offset-scale .ensures) (omega arith)
 
 returns-2 : tie.Need-returns-2
-returns-2 c = let a = c .before .before .before .args in no-range (at (a .words .now)) (a .basic-range) (small (c .before)) (c .if2 .taken)
+returns-2 c = let a = c .before .before .before .args in no-range (at (a .words .now)) (a .basic-range) (small (c .before)) (omega arith)
 
 returns-3 : tie.Need-returns-3
 returns-3 c =
     let i = c .before .before in
     let a = i .before .before .before .args in
-    zero (at (a .words .now)) (a .basic-range) (small (i .before)) (i .if2 .left) _ (c .before .zero-factor .ensures) (c .if3 .taken)
+    zero (at (a .words .now)) (a .basic-range) (small (i .before)) (inside i) _ (c .before .zero-factor .ensures) (omega arith)
 
 returns-4 : tie.Need-returns-4
 returns-4 c =
     let i = c .before .before in
     let a = i .before .before .before .args in
     let e = c .before .zero-factor .ensures in
-    none (at (a .words .now)) (a .basic-range) (small (i .before)) (i .if2 .left) (rw e at (c .if3 .left))
+    none (at (a .words .now)) (a .basic-range) (small (i .before)) (inside i) (omega arith)
 
 pub data-gate-spec : {M : Type 1} → statement M
 data-gate-spec = tie.close (tie.spec (λ c κs. search needs) returns returns-2 (λ c κs. search needs) returns-3 returns-4)
