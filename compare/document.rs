@@ -1,5 +1,6 @@
 //! What document 01 says of chip words, of offsets and of what stops a call, as document 02 mends it; written from the documents alone.
 use crate::library::{Frame, Record};
+use num_traits::Float;
 
 /// Number, place and value; all 0 for none.
 pub type Verdict = (u64, u64, u64);
@@ -228,4 +229,37 @@ pub fn one_pass(f: &Frame, destination: usize) -> Verdict {
         return (6, f.range as u64, 0);
     }
     reading(&f.record, f)
+}
+
+/// The second pass: as one pass, and then 12 for corners that don't rise.
+pub fn ranged(f: &Frame, destination: usize) -> Verdict {
+    let verdict = one_pass(f, destination);
+    if verdict.0 != 0 {
+        return verdict;
+    }
+    let corners = &f.record.corner_temperatures;
+    match (1..8).find(|k| corners[*k] <= corners[*k - 1]) {
+        Some(corner) => (12, corner as u64, 0),
+        None => (0, 0, 0),
+    }
+}
+
+fn fourth(x: f32) -> f32 {
+    (x * x) * (x * x)
+}
+
+/// A pixel's temperature in the second pass, from its infrared number and its basic temperature.
+pub fn ranged_temperature(f: &Frame, heating: f32, t_a: f32, alpha: f32, v: f32, basic: f32) -> f32 {
+    let r = &f.record;
+    if basic.is_nan() {
+        return f32::NAN;
+    }
+    let range = (0..8).rev().find(|k| f32::from(r.corner_temperatures[*k]) <= basic).unwrap_or(0);
+    let alpha = if r.has_gradient == 0 { alpha } else { alpha - r.alpha_cp * r.gradient };
+    let a = alpha * (1.0 + r.k_s_ta * (t_a - 25.0));
+    let (a4, r4) = (fourth(t_a + 273.15), fourth(f.reflected.unwrap_or(t_a - heating) + 273.15));
+    let t_ar = if f.emissivity == 1.0 { a4 } else { r4 - (r4 - a4) / f.emissivity };
+    let growth = 1.0 + r.k_s_to[range] * (basic - f32::from(r.corner_temperatures[range]));
+    let x = v / (a * r.range_coefficients[range] * growth) + t_ar;
+    x.document_root() - 273.15
 }

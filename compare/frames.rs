@@ -342,6 +342,53 @@ fn one(tally: &mut Tally, powf: &mut [Powf; 2], n: &mut Numbers, label: &str) {
     if n.one_in(4) {
         filtered(tally, n, label, &f, &before);
     }
+    if n.one_in(3) {
+        ranged(tally, n, label, &f, &before);
+    }
+}
+
+// The second pass, which the crate has not: from its infrared numbers and the rooted crate's temperatures, by document.rs. Corners rise but for one case in
+// eight; K and coefficients of other ranges are the card's, or wild.
+fn ranged(tally: &mut Tally, n: &mut Numbers, label: &str, f: &Frame, before: &[u32]) {
+    let mut f = f.clone();
+    let r = &mut f.record;
+    if n.one_in(2) {
+        let mut corner = n.between(-300, 0) as i16;
+        for slot in r.corner_temperatures.iter_mut() {
+            *slot = corner;
+            corner += n.between(1, 120) as i16;
+        }
+    }
+    if n.one_in(8) {
+        let k = 1 + n.below(7);
+        r.corner_temperatures[k] = r.corner_temperatures[k - 1].saturating_sub(n.below(3) as i16);
+    }
+    for k in 0..8 {
+        if n.one_in(8) {
+            r.range_coefficients[k] = n.wild();
+        }
+        if k != f.range && n.one_in(8) {
+            r.k_s_to[k] = n.wild();
+        }
+    }
+    let mut after = before.to_vec();
+    let answer = library::raw_pixels_to_ranged_temperatures(&f, &mut after);
+    let verdict = document::ranged(&f, before.len());
+    let infrared = of_call(before, |destination| published::raw_pixels_to_ir_data(&f, destination));
+    let basic = of_call(before, |destination| rooted::raw_pixels_to_temperatures(&f, destination));
+    let said = match (infrared, basic) {
+        (Some((t_a, v)), Some((_, basic))) => {
+            let mut wanted = floats(before);
+            for i in (0..wanted.len().min(192)).filter(|i| f.mask.get(*i).is_some_and(|byte| *byte != 0)) {
+                let alpha = f.tables.alpha.get(i).copied().unwrap_or(f32::NAN);
+                wanted[i] = document::ranged_temperature(&f, HEATS[f.heat], t_a, alpha, v[i], basic[i]);
+            }
+            Some((t_a, wanted))
+        }
+        _ => None,
+    };
+    let j = Judged { call: "second pass", label, mask: &f.mask, before };
+    judge(tally, &j, verdict, answer, &after, &said);
 }
 
 // The forms with a filter's answer: a whole average is another reading, which the crate can judge; not yet is the frame's own.

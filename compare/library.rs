@@ -272,3 +272,16 @@ pub fn filtered_pixels_to_temperatures(f: &Frame, average: Option<f32>, destinat
     let given = if planted("filtered-not-yet-is-0") { Some(average.unwrap_or(0.0)) } else { average };
     border::filtered_pixels_to_temperatures(&reading(f), given, &heat(f), destination)
 }
+
+pub fn raw_pixels_to_ranged_temperatures(f: &Frame, destination: &mut [u32]) -> Answer {
+    let before = destination.to_vec();
+    let mut answer = border::raw_pixels_to_ranged_temperatures(&reading(f), &heat(f), destination);
+    if planted("second-pass-is-the-first") && answer.number == 0 {
+        destination.copy_from_slice(&before);
+        answer = border::raw_pixels_to_temperatures(&reading(f), &heat(f), destination);
+    }
+    if planted("corners-one-lower") && answer.number == 12 {
+        answer.place -= 1;
+    }
+    answer
+}

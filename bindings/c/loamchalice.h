@@ -157,6 +157,17 @@ loamchalice_answer loamchalice_raw_pixels_to_temperatures(
     const uint8_t *pixels, size_t pixels_length, const uint8_t *mask, size_t mask_length,
     uint32_t *destination, size_t destination_length);
 
+/* The second pass, for scenes beyond the basic range: each pixel's basic temperature is worked out as in one pass, and its temperature from that with the
+ * numbers of the range that holds it. It takes what one pass takes, and the destination's old numbers are not read. The record's coefficients are those
+ * of the basic range that the card was loaded with. Refusals 2, 10, 6, 7, 8, 12. */
+loamchalice_answer loamchalice_raw_pixels_to_ranged_temperatures(
+    loamchalice_record calibration, float emissivity, float resolution_correction, float v_dd_0, loamchalice_ram ram, uint8_t subpage,
+    size_t basic_range, uint8_t reflected_given, float reflected,
+    const int32_t *offsets0, size_t offsets0_length, const int32_t *offsets1, size_t offsets1_length,
+    const float *alpha, size_t alpha_length, const float *k_v, size_t k_v_length, const float *k_ta, size_t k_ta_length,
+    const uint8_t *pixels, size_t pixels_length, const uint8_t *mask, size_t mask_length,
+    uint32_t *destination, size_t destination_length);
+
 /* A steadier compensation pixel: the last 16 raw readings and their sum, by value. Keep one for each subpage that is read: a filter knows nothing
  * of subpages. A new one is all zero. One made by hand gives an answer too: a sum that 20 bits signed don't hold counts as the nearest that they do. */
 typedef struct {

@@ -191,6 +191,13 @@ extern "C" {
         k_v: *const f32, k_v_length: usize, k_ta: *const f32, k_ta_length: usize,
         pixels: *const u8, pixels_length: usize, mask: *const u8, mask_length: usize, destination: *mut u32, destination_length: usize,
     ) -> Answer;
+    fn loamchalice_raw_pixels_to_ranged_temperatures(
+        calibration: Record, emissivity: f32, resolution_correction: f32, v_dd_0: f32, ram: Ram, subpage: u8,
+        basic_range: usize, reflected_given: u8, reflected: f32,
+        offsets0: *const i32, offsets0_length: usize, offsets1: *const i32, offsets1_length: usize, alpha: *const f32, alpha_length: usize,
+        k_v: *const f32, k_v_length: usize, k_ta: *const f32, k_ta_length: usize,
+        pixels: *const u8, pixels_length: usize, mask: *const u8, mask_length: usize, destination: *mut u32, destination_length: usize,
+    ) -> Answer;
     fn loamchalice_filter_new() -> Filter;
     fn loamchalice_filter_push(filter: Filter, reading: i16) -> Filter;
     fn loamchalice_filter_average(filter: Filter) -> Average;
@@ -345,6 +352,39 @@ pub fn raw_pixels_to_temperatures(r: &Reading, heat: &Heat, destination: &mut [u
     let [zero, one] = r.offsets;
     unsafe {
         loamchalice_raw_pixels_to_temperatures(
+            r.record,
+            r.emissivity,
+            r.resolution_correction,
+            r.v_dd_0,
+            r.ram,
+            r.subpage,
+            heat.basic_range,
+            heat.given.into(),
+            heat.reflected,
+            zero.as_ptr(),
+            zero.len(),
+            one.as_ptr(),
+            one.len(),
+            heat.alpha.as_ptr(),
+            heat.alpha.len(),
+            r.k_v.as_ptr(),
+            r.k_v.len(),
+            r.k_ta.as_ptr(),
+            r.k_ta.len(),
+            r.pixels.as_ptr(),
+            r.pixels.len(),
+            r.mask.as_ptr(),
+            r.mask.len(),
+            destination.as_mut_ptr(),
+            destination.len(),
+        )
+    }
+}
+
+pub fn raw_pixels_to_ranged_temperatures(r: &Reading, heat: &Heat, destination: &mut [u32]) -> Answer {
+    let [zero, one] = r.offsets;
+    unsafe {
+        loamchalice_raw_pixels_to_ranged_temperatures(
             r.record,
             r.emissivity,
             r.resolution_correction,

@@ -350,6 +350,34 @@ impl Calibration {
         answered(border::raw_pixels_to_temperatures(&reading, &self.heat(settings), as_bits(destination)))
     }
 
+    /// The second pass, for scenes beyond the basic range: each pixel's basic temperature is worked out as in one pass, and its temperature from that with
+    /// the numbers of the range that holds it. Refusals 10, 6, 7, 8, 12. [`Calibration::from_data`] and [`Calibration::from_data_in`] make the coefficients of
+    /// the basic range that a card is loaded with; use the same one in the settings.
+    ///
+    /// ```
+    /// use loamchalice::{Calibration, RamData, Settings, Subpage, ALL_PIXELS};
+    /// let camera = Calibration::from_data(include_bytes!("../../../cards/sound.bin"))?;
+    /// let ram = RamData { t_a_v_be: 19442, t_a_ptat: 1711, v_dd_pixel: -13115, gain: 6391, compensation_pixel: -105 };
+    /// let (mut basic, mut ranged) = ([0f32; 192], [0f32; 192]);
+    /// let hot = [0x7F; 384];
+    /// camera.raw_pixels_to_temperatures(&Settings::default(), ram, Subpage::Zero, &hot, &ALL_PIXELS, &mut basic)?;
+    /// camera.raw_pixels_to_ranged_temperatures(&Settings::default(), ram, Subpage::Zero, &hot, &ALL_PIXELS, &mut ranged)?;
+    /// assert!(basic[0] > 80.0 && basic != ranged);
+    /// # Ok::<(), loamchalice::Refusal>(())
+    /// ```
+    pub fn raw_pixels_to_ranged_temperatures(
+        &self,
+        settings: &Settings,
+        ram: RamData,
+        subpage: Subpage,
+        pixels: &[u8],
+        valid_pixels: &[bool],
+        destination: &mut [f32],
+    ) -> Result<Frame, Refusal> {
+        let reading = self.reading(settings, ram, subpage, pixels, valid_pixels);
+        answered(border::raw_pixels_to_ranged_temperatures(&reading, &self.heat(settings), as_bits(destination)))
+    }
+
     /// [`Calibration::raw_pixels_to_ir_data`] with what a [`Filter`] answers; `None` is that call. An average that is not a number refuses nothing: with a
     /// gradient every pixel asked for is lost.
     #[allow(clippy::too_many_arguments)]

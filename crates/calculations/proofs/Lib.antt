@@ -1,6 +1,6 @@
 -- Single, Demand, OneOrTwo and NoAverage are the laws that callers cite; the others lead to the code.
-mod Opened
-mod Calls
+pub mod Opened
+pub mod Calls
 mod Both
 pub mod Single
 pub mod Demand

@@ -24,7 +24,7 @@ pub enum Frame {
 }
 
 // K_sTo of the basic range.
-fn basic_k_s_to(calibration: Calibration, basic_range: usize) -> f32
+pub fn basic_k_s_to(calibration: Calibration, basic_range: usize) -> f32
     requires { ⌜ «basic_range» < 8 ⌝ }
     ensures { λ r. ⌜ r ≡ getD (calibration .«k_s_to») «basic_range» nan ⌝ }
 {
@@ -33,20 +33,20 @@ fn basic_k_s_to(calibration: Calibration, basic_range: usize) -> f32
 }
 
 // The length of the shortest of four tables.
-fn shortest_of(offsets0: usize, offsets1: usize, k_v: usize, k_ta: usize) -> usize
+pub fn shortest_of(offsets0: usize, offsets1: usize, k_v: usize, k_ta: usize) -> usize
     ensures { λ r. ⌜ r ≡ min (min offsets0 offsets1) (min «k_v» «k_ta») ⌝ }
 {
     util::least(util::least(offsets0, offsets1), util::least(k_v, k_ta))
 }
 
 // The frame's ambient temperature, and how many of its pixels are lost.
-struct Summary {
-    t_a: f32,
-    lost: usize,
+pub struct Summary {
+    pub t_a: f32,
+    pub lost: usize,
 }
 
 // Writes the infrared numbers of the pixels, from any reading of the compensation pixel.
-fn write_infrared<'a>(
+pub fn write_infrared<'a>(
     calibration: Calibration,
     emissivity: f32,
     supply: Supply,
@@ -221,7 +221,7 @@ fn pixels_to_temperatures<'a>(
 }
 
 // The frame's own reading of the compensation pixel.
-fn own_reading(ram: RamData) -> f32
+pub fn own_reading(ram: RamData) -> f32
     ensures { λ r. ⌜ r ≡ ownReading ram ⌝ }
 {
     ram.compensation_pixel as f32

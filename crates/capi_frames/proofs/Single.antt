@@ -9,7 +9,7 @@ use Rattle.capi_frames.specs.declared.Answer.{Answer}
 use Rattle.capi_frames.specs.Border.{frameOut, Carried}
 
 -- where any two answers of an inner call are one, so are C's
-carried : (P Q : Frame → Type 0) {r q : Answer} → ((a b : Frame) → P a → Q b → a ≡ b) → Carried P r → Carried Q q → r ≡ q
+pub carried : (P Q : Frame → Type 0) {r q : Answer} → ((a b : Frame) → P a → Q b → a ≡ b) → Carried P r → Carried Q q → r ≡ q
 carried P Q one p s = p .out ∙ ap frameOut (one _ _ (p .kept) (s .kept)) ∙ sym (s .out)
 
 pub single-infrared-out : (f : IrCall) (d x y : List ℕ) (r q : Answer) → Carried (Infrareds f d x) r → Carried (Infrareds f d y) q → (r ≡ q) × (x ≡ y)

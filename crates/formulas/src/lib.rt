@@ -239,7 +239,7 @@ pub fn final_value(v_ir: f32, a: f32, common: CommonToData) -> f32
 }
 
 // The temperature of a final value.
-fn temperature(value: f32) -> f32
+pub fn temperature(value: f32) -> f32
     ensures { λ r. ⌜ r ≡ celsius value ⌝ }
 {
     root::fourth_root(value) - 273.15

@@ -1,4 +1,4 @@
 -- Lost and Stages are the laws that callers cite; Steps leads to the code.
-mod Steps
+pub mod Steps
 pub mod Lost
 pub mod Stages

@@ -18,7 +18,7 @@ use offsets::Offset;
 const PATTERN: u32 = 0x7FC0_0000;
 
 // Whether the mask asks for pixel i.
-fn masked(mask: &[u8], i: usize) -> bool
+pub fn masked(mask: &[u8], i: usize) -> bool
     requires { ⌜ i < length (now mask) ⌝ }
     ensures { λ r. ⌜ r ≡ touched (now (mask .entry)) i ⌝ }
 {
@@ -115,7 +115,7 @@ fn final_values(
 }
 
 // Infrared numbers to temperatures, in place, from their final values. Answers how many had none.
-fn answer_pixels(mask: &[u8], values: &[f32], destination: &mut [u32]) -> usize
+pub fn answer_pixels(mask: &[u8], values: &[f32], destination: &mut [u32]) -> usize
     requires { ⌜ (framePixels ≤ length (now mask)) × (framePixels ≤ length (now values)) × (framePixels ≤ length (now destination)) ⌝ }
     ensures { λ r. ⌜ r ≡ lostOf (now (mask .entry)) (temperatureBits (valueAt (now (values .entry))) (held (now (destination .entry)))) ⌝ }
     ensures { λ r. ⌜ now (destination .exit) ≡ into (now (mask .entry)) (temperatureBits (valueAt (now (values .entry))) (held (now (destination .entry)))) (now (destination .entry)) ⌝ }

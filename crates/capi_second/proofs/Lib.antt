@@ -1,0 +1,2 @@
+-- That there is one answer.
+pub mod Single
