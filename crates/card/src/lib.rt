@@ -34,7 +34,7 @@ pub struct Read {
 }
 
 // What word number `word` of an image says. An unchecked word says 0.
-fn read_word(image: &[u8], word: usize) -> Read
+pub fn read_word(image: &[u8], word: usize) -> Read
     requires { ⌜ word * 2 + 1 < length (now image) ⌝ }
     ensures { λ r. ⌜ r ≡ readOf (now (image .entry)) word ⌝ }
 {

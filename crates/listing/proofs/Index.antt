@@ -42,7 +42,7 @@ module _ (listed : ℕ → Bool) where
   unfolding listIndex countBelow
   index-next word = ap (countBelow listed) (add-one word)
 
-  rises : (word n : ℕ) → listIndex listed word ≤ listIndex listed (word + n)
+  pub rises : (word n : ℕ) → listIndex listed word ≤ listIndex listed (word + n)
   unfolding listIndex countBelow
   rises word zero = rw (add-zero word) (le-refl (countBelow listed word))
   rises word (suc n) = let ih = rises word n in rw (add-suc word n) (omega arith)

@@ -1,5 +1,5 @@
--- Kept leads to the code; Index, Opened and Single have the laws that callers cite.
-mod Kept
+-- The laws that callers cite; Kept is for a loop that lists words.
+pub mod Kept
 pub mod Index
 pub mod Opened
 pub mod Single

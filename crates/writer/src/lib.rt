@@ -18,7 +18,7 @@ use refusal::Refusal;
 use refusal::Verdict;
 
 // The codeword of 11 bits of data.
-fn codeword(data: u16) -> u16
+pub fn codeword(data: u16) -> u16
     requires { ⌜ «data» < dataValues ⌝ }
     ensures { λ r. ⌜ r ≡ encoded «data» ⌝ }
 {
@@ -30,7 +30,7 @@ fn codeword(data: u16) -> u16
 }
 
 // Puts a word into the bytes, which reach that far.
-fn put_word(bytes: &mut [u8], index: usize, word: u16)
+pub fn put_word(bytes: &mut [u8], index: usize, word: u16)
     requires { ⌜ index * 2 + 1 < length (now bytes) ⌝ }
     ensures { λ _. ⌜ now (bytes .exit) ≡ set (set (now (bytes .entry)) (index * 2) (word / 256)) (index * 2 + 1) (word % 256) ⌝ }
 {

@@ -1,0 +1,5 @@
+-- Step and Noted lead to the code.
+mod Step
+mod Noted
+pub mod Mended
+pub mod Opened
