@@ -1,7 +1,7 @@
 -- Data of an image: how large, where there are none, and that decoded words are they at every number. Assumes nothing.
 use Prim.Native.Nat.{ℕ, _≤_, _<_}
 use mathlib.Core.Path.{_≡_, refl, sym, ap, _∙_, fun-ext}
-use mathlib.Core.Bool.{Bool, true, false, not}
+use mathlib.Core.Bool.{Bool, true, false, not, true≢false}
 use mathlib.Core.List.{List}
 use native.Mathlib.Decide.{decLe}
 use native.Mathlib.Nat.{lt-of-not-le, le-of-eq}
@@ -13,7 +13,7 @@ use Rattle.lists.specs.Written.{filled}
 use Rattle.lists.proofs.First.{is-first}
 use Rattle.lists.proofs.Written.{written-at, length-written}
 use Rattle.util.specs.Words.{wordAt}
-use Rattle.hamming.specs.Word.{Said, says, dataValues, isSaid, decoded, saidData}
+use Rattle.hamming.specs.Word.{Said, says, damaged, dataValues, isSaid, decoded, saidData}
 use Rattle.hamming.proofs.Answers as answers
 use Rattle.map.specs.Map.{cardWords, checked}
 use Rattle.map.proofs.Spans.{unchecked-past}
@@ -29,6 +29,24 @@ module _ (image : List ℕ) (word d : ℕ) (e : readAt image word ≡ says d) wh
   pub data-is : d ≡ dataAt image word
   unfolding dataAt
   data-is = sym (ap saidData e)
+
+-- a checked word says what it decodes to, any other 0
+pub read-checked : (image : List ℕ) (word : ℕ) → checked word ≡ true → readAt image word ≡ decoded (wordAt image word)
+unfolding readAt
+read-checked image word e = ap (λ (b : Bool). pick b (decoded (wordAt image word)) (says 0)) e
+
+pub read-unchecked : (image : List ℕ) (word : ℕ) → checked word ≡ false → readAt image word ≡ says 0
+unfolding readAt
+read-unchecked image word e = ap (λ (b : Bool). pick b (decoded (wordAt image word)) (says 0)) e
+
+said-of : (s : Said) → not (isSaid s) ≡ false → s ≡ says (saidData s)
+said-of (says d) e = refl
+said-of damaged e = absurd (true≢false e)
+
+-- and one that is not damaged says its data
+pub says-data : (image : List ℕ) (word : ℕ) → damagedAt image word ≡ false → readAt image word ≡ says (dataAt image word)
+unfolding damagedAt dataAt
+says-data image word e = said-of (readAt image word) e
 
 read-lt : (w : ℕ) (b : Bool) → saidData (pick b (decoded w) (says 0)) < dataValues
 read-lt w true = answers.data-lt w

@@ -27,7 +27,7 @@ unfolding checked roleOf spans
 last-checked = refl
 
 module _ (test : ℕ → Bool) (only : (word : ℕ) → test word ≡ true → checked word ≡ true) where
-  fewer : (n : ℕ) → listIndex test n ≤ listIndex checked n
+  pub fewer : (n : ℕ) → listIndex test n ≤ listIndex checked n
   unfolding listIndex countBelow
   fewer zero = omega arith
   fewer (suc n) = let a = fewer n in let b = one (test n) (checked n) (only n) in omega arith

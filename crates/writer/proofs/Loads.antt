@@ -1,4 +1,4 @@
--- A card that was read and written again loads as before, with any basic range: the same answer, and the same tables. Assumes nothing.
+-- A card that was read and written again loads as before: the same answer, and the same tables. Assumes nothing.
 use Prim.Native.Nat.{ℕ, _≤_}
 use mathlib.Core.Path.{_≡_, sym, ap, _∙_}
 use mathlib.Core.List.{List, _∷_}
@@ -28,18 +28,19 @@ rest-of : (image : List ℕ) (range table : ℕ) → imageBytes ≤ length image
 unfolding loadTests firstOf
 rest-of image range table h n = simp (le-ltb _ _ h, le-ltb _ _ n)
 
--- so two with the same data load alike
-module _ (image other : List ℕ) (e : dataAt other ≡ dataAt image) (h : imageBytes ≤ length image) (k : imageBytes ≤ length other)
-    (n : cardWords ≤ firstDamaged image) (m : cardWords ≤ firstDamaged other) where
-  same-verdict : (range : ℕ) (t : Tables) → loadVerdict other range t ≡ loadVerdict image range t
-  same-verdict range t =
-      rest-of other range (shortest t) k m
-      ∙ ap (λ (w : ℕ → ℕ). firstOf (ltb (shortest t) framePixels refuses ShortTable ∷ dataTests w range)) e
-      ∙ sym (rest-of image range (shortest t) h n)
+-- so two with the same data are refused alike
+same-verdict : (image other : List ℕ) → dataAt other ≡ dataAt image → imageBytes ≤ length image → imageBytes ≤ length other → cardWords ≤ firstDamaged image
+    → cardWords ≤ firstDamaged other → (range : ℕ) (t : Tables) → loadVerdict other range t ≡ loadVerdict image range t
+same-verdict image other e h k n m range t =
+    rest-of other range (shortest t) k m
+    ∙ ap (λ (w : ℕ → ℕ). firstOf (ltb (shortest t) framePixels refuses ShortTable ∷ dataTests w range)) e
+    ∙ sym (rest-of image range (shortest t) h n)
 
-  same-load : {range : ℕ} {t x y : Tables} {q s : Loaded} → Loads image range t x q → Loads other range t y s → (s .verdict ≡ q .verdict) × (s .calibration ≡ q .calibration) × (y ≡ x)
+-- two with the same data that are refused alike load alike
+module _ (image other : List ℕ) (e : dataAt other ≡ dataAt image) (alike : (range : ℕ) (t : Tables) → loadVerdict other range t ≡ loadVerdict image range t) where
+  pub same-load : {range : ℕ} {t x y : Tables} {q s : Loaded} → Loads image range t x q → Loads other range t y s → (s .verdict ≡ q .verdict) × (s .calibration ≡ q .calibration) × (y ≡ x)
   same-load {range} {t} {x} {y} {q} {s} p o =
-      let v : s .verdict ≡ q .verdict = o .verdict ∙ same-verdict range t ∙ sym (p .verdict) in (
+      let v : s .verdict ≡ q .verdict = o .verdict ∙ alike range t ∙ sym (p .verdict) in (
         v,
         o .calibration
             ∙ ap (λ (z : Verdict). unless z (calibrationOf (dataAt other) range) noCalibration) v
@@ -55,5 +56,6 @@ pub back-loads : {image before after : List ℕ} {b a : Lists} {r : Verdict} →
     → {range : ℕ} {t x y : Tables} {q s : Loaded} → Loads image range t x q → Loads after range t y s → (s .verdict ≡ q .verdict) × (s .calibration ≡ q .calibration) × (y ≡ x)
 back-loads {image} {before} {after} {b} {a} d l w p o =
     let t = taken d l w in
-    same-load image after (back-data d l w) (t .image-long) (length-after d l w) (t .none)
-    (le-of-eq (none-damaged after (firsts a) (held-after d l w))) p o
+    same-load image after (back-data d l w)
+    (same-verdict image after (back-data d l w) (t .image-long) (length-after d l w) (t .none)
+    (le-of-eq (none-damaged after (firsts a) (held-after d l w)))) p o

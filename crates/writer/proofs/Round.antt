@@ -24,7 +24,7 @@ use Rattle.hamming.proofs.Flips.{clean}
 use Rattle.map.specs.Map.{cardWords, imageBytes, checkedWords, checked}
 use Rattle.map.proofs.Spans.{unchecked-past}
 use Rattle.card.specs.Card.{readAt, dataAt, damagedAt, firstDamaged}
-use Rattle.card.proofs.Data.{data-lt, data-is, not-damaged}
+use Rattle.card.proofs.Data.{data-lt, data-is, not-damaged, read-checked, read-unchecked, says-data}
 use Rattle.listing.specs.Index.{Lists, lists, unchecked, uncheckedWords, listIndex, listedWord}
 use Rattle.listing.specs.Read.{listsOf, Reads}
 use Rattle.listing.proofs.Index.{checked-all, unchecked-all, checked-lt, unchecked-lt, word-of-index, listed-lt, is-listed, index-of-word}
@@ -36,16 +36,6 @@ use Rattle.writer.proofs.Codes.{encoded-clean, clean-says}
 use Rattle.writer.proofs.From.{from-checked, from-unchecked}
 use Rattle.writer.proofs.Bytes.{high, low, word-there}
 use Rattle.writer.proofs.Opened as writing
-
--- ---- a checked word says what it decodes to, any other 0
-
-read-checked : (image : List ℕ) (word : ℕ) → checked word ≡ true → readAt image word ≡ decoded (wordAt image word)
-unfolding readAt
-read-checked image word e = ap (λ (b : Bool). pick b (decoded (wordAt image word)) (says 0)) e
-
-read-unchecked : (image : List ℕ) (word : ℕ) → checked word ≡ false → readAt image word ≡ says 0
-unfolding readAt
-read-unchecked image word e = ap (λ (b : Bool). pick b (decoded (wordAt image word)) (says 0)) e
 
 -- ---- a written card
 
@@ -146,18 +136,13 @@ same-lists image f g o p a b c d =
 
 -- ---- a card that is read
 
-said-of : (s : Said) → not (isSaid s) ≡ false → s ≡ says (saidData s)
-said-of (says d) e = refl
-said-of damaged e = absurd (true≢false e)
-
 module _ (image : List ℕ) (word : ℕ) (h : word < cardWords) (n : cardWords ≤ firstDamaged image) where
-  undamaged : damagedAt image word ≡ false
+  pub undamaged : damagedAt image word ≡ false
   unfolding firstDamaged
   undamaged = is-first (damagedAt image) 0 cardWords .before word (omega arith) (omega arith)
 
-  says-data : readAt image word ≡ says (dataAt image word)
-  unfolding damagedAt dataAt
-  says-data = said-of (readAt image word) undamaged
+  says-datum : readAt image word ≡ says (dataAt image word)
+  says-datum = says-data image word undamaged
 
 module _ (image : List ℕ) (b : Lists) (s : reading.Sound image (length (b .checked)) (length (b .unchecked))) where
   abbrev got : Lists
@@ -189,7 +174,7 @@ module _ (image : List ℕ) (b : Lists) (s : reading.Sound image (length (b .che
   got-holds : Holds got image
   got-holds = record {
     said = λ word h e.
-        says-data image word h (s .none)
+        says-datum image word h (s .none)
         ∙ ap says (sym (entry-first (listIndex checked word) (checked-lt word h e) ∙ ap (dataAt image) (word-of-index checked word h e)));
     stands = λ word h e.
         sym (entry-second (listIndex unchecked word) (unchecked-lt word h e) ∙ ap (wordAt image) (word-of-index unchecked word h (ap not e)));
