@@ -26,7 +26,7 @@ use Rattle.scrub.proofs.Mended.{same-read, same-mended, code-stays, dam
 
 pub length-after : (image : List ℕ) → length (scrubbed image) ≡ length image
 unfolding scrubbed
-length-after image = length-written (λ k. mendedAt image (k / 2)) (byteOf (codeAt image)) imageBytes image
+length-after image = length-written _ _ imageBytes image
 
 -- past the card no word is mended
 none-past : (image : List ℕ) (word : ℕ) → cardWords ≤ word → mendedAt image word ≡ false
@@ -44,11 +44,11 @@ module _ (image : List ℕ) (l : imageBytes ≤ length image) where
 
   pub byte : (k : ℕ) → k < imageBytes → getD after k 0 ≡ pick (mendedAt image (k / 2)) (byteOf (codeAt image) k) (getD image k 0)
   unfolding scrubbed
-  byte k h = written-at (λ k. mendedAt image (k / 2)) (byteOf (codeAt image)) imageBytes image k 0 l h
+  byte k h = written-at _ _ imageBytes image k 0 l h
 
   pub byte-past : (k : ℕ) → imageBytes ≤ k → getD after k 0 ≡ getD image k 0
   unfolding scrubbed
-  byte-past k h = written-past (λ k. mendedAt image (k / 2)) (byteOf (codeAt image)) imageBytes image k 0 h
+  byte-past k h = written-past _ _ imageBytes image k 0 h
 
   -- ---- words: a mended one is its codeword, any other as before
 

@@ -49,7 +49,7 @@ module _ (test : ℕ → Bool) (f : (word : ℕ) → test word ≡ false) where
 
 nothing-mended : (image : List ℕ) → ((word : ℕ) → mendedAt image word ≡ false) → scrubbed image ≡ image
 unfolding scrubbed
-nothing-mended image f = untouched (λ k. mendedAt image (k / 2)) (byteOf (codeAt image)) imageBytes image (λ k. f (k / 2))
+nothing-mended image f = untouched _ _ imageBytes image (λ k. f (k / 2))
 
 module _ (image : List ℕ) (l : imageBytes ≤ length image) where
   pub settled : scrubbed (scrubbed image) ≡ scrubbed image

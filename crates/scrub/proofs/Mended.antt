@@ -29,7 +29,7 @@ module _ (image other : List ℕ) (word : ℕ) (e : wordAt image word ≡ wordAt
 
   pub same-mended : mendedAt image word ≡ mendedAt other word
   unfolding mendedAt
-  same-mended = ap₂ (λ (s d : Bool). s && not d) same-stray same-damaged
+  same-mended = cc (same-stray, same-damaged)
 
   pub same-code : codeAt image word ≡ codeAt other word
   unfolding codeAt dataAt
@@ -50,13 +50,13 @@ not-not true e = absurd (true≢false (sym e))
 not-not false e = refl
 
 module _ (image : List ℕ) (word : ℕ) where
-  pub damaged-stays : damagedAt image word ≡ true → mendedAt image word ≡ false
-  unfolding mendedAt
-  damaged-stays e = and-not (strayAt image word) (damagedAt image word) e
-
   pub code-stays : strayAt image word ≡ false → mendedAt image word ≡ false
   unfolding mendedAt
   code-stays e = ap (λ (s : Bool). s && not (damagedAt image word)) e
+
+  pub damaged-stays : damagedAt image word ≡ true → mendedAt image word ≡ false
+  unfolding mendedAt
+  damaged-stays e = and-not (strayAt image word) (damagedAt image word) e
 
   pub is-mended : strayAt image word ≡ true → damagedAt image word ≡ false → mendedAt image word ≡ true
   unfolding mendedAt
