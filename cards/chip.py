@@ -215,3 +215,20 @@ def burn(present, wanted):
 def stepped(image, step):
     word, value = step
     return image[:2 * word] + value.to_bytes(2, "big") + image[2 * word + 2:]
+
+
+# ---- A scrub
+
+def scrub(image):
+    """Document 02, CR 6: number, place and value of the refusal; the image, each checked word one flip from a codeword made that codeword; the words
+    that changed, and those that are damaged."""
+    if len(image) < BYTES:
+        return (1, len(image), 0), image, [], []
+    changed, damaged = [], []
+    for k, word in enumerate(words_of(image)):
+        if is_checked(k) and not is_codeword(word):
+            data = check(word)
+            (damaged if data is None else changed).append(k)
+            if data is not None:
+                image = stepped(image, (k, encode(data)))
+    return (0, 0, 0), image, changed, damaged

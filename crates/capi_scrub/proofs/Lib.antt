@@ -1,0 +1,2 @@
+-- The law of the single answer.
+pub mod Single

@@ -1,0 +1,2 @@
+-- The answer of a scrub as C has it.
+pub mod Scrubbing
