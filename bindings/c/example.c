@@ -9,6 +9,7 @@
 /* What the archive hands over, on a processor of 64 bits. */
 _Static_assert(sizeof(loamchalice_word) == 32 && sizeof(loamchalice_part) == 16 && sizeof(loamchalice_record) == 132, "layout");
 _Static_assert(sizeof(loamchalice_loaded) == 176 && sizeof(loamchalice_ram) == 10 && sizeof(loamchalice_answer) == 40 && sizeof(loamchalice_step) == 40, "layout");
+_Static_assert(sizeof(loamchalice_scrubbed) == 40, "layout");
 _Static_assert(sizeof(loamchalice_mlx90640_six_ten) == 4 && sizeof(loamchalice_mlx90640_unsigned) == 4 && sizeof(loamchalice_mlx90640_signed) == 4, "layout");
 _Static_assert(sizeof(loamchalice_mlx90640_access) == 36 && sizeof(loamchalice_mlx90640_entry) == 32, "layout");
 

@@ -92,6 +92,12 @@ typedef struct {
     uint8_t reached; /* 1 if the present image is the wanted one: with none left to do, or after the step; else 0 */
 } loamchalice_step;
 
+/* What a scrub did: so many entries at the start of its two lists are word numbers, ascending. */
+typedef struct {
+    uint64_t number, place, value;
+    size_t changed, damaged; /* words that were mended, and words that are damaged and stay; 0 after a refusal */
+} loamchalice_scrubbed;
+
 /* The chip word of 11 bits of data. Refusal 9. */
 loamchalice_word loamchalice_encode(uint16_t data);
 
@@ -131,6 +137,12 @@ loamchalice_step loamchalice_next_step(const uint8_t *present, size_t present_le
 /* Does that step on the present image, both bytes of the word. At most 1,628 calls reach the wanted image; a burn that was cut goes on from what is
  * found. Bytes past 1,664 stay. Refusals as above. */
 loamchalice_step loamchalice_burn(uint8_t *present, size_t present_length, const uint8_t *wanted, size_t wanted_length);
+
+/* Mends a card in place: each checked word that is one flip from a codeword becomes that codeword; other words and bytes past 1,664 stay. The numbers of
+ * the words that it changed and of those that are damaged come to the start of two lists of 814 entries or more; later entries stay. The card loads
+ * as before, with no word mended. Refusals 1, 2. */
+loamchalice_scrubbed loamchalice_scrub(
+    uint8_t *image, size_t image_length, uint16_t *changed, size_t changed_length, uint16_t *damaged, size_t damaged_length);
 
 /* Pixels, two bytes each and the upper first, to infrared numbers. Mask byte i belongs to pixel i: 0 leaves it.
  * 384 pixel bytes, 192 mask bytes and 192 entries are taken; what follows them is not read and stays. Refusals 2, 10, 7, 8. */

@@ -144,12 +144,22 @@ pub struct Average {
     pub ready: u8,
 }
 
+#[repr(C)]
+#[derive(Clone, Copy, Debug)]
+pub struct Scrub {
+    pub number: u64,
+    pub place: u64,
+    pub value: u64,
+    pub changed: usize,
+    pub damaged: usize,
+}
+
 // What the archive hands over, on a processor of 64 bits.
 const _: () = {
     use std::mem::size_of;
     assert!(size_of::<Word>() == 32 && size_of::<Part>() == 16 && size_of::<Record>() == 132);
     assert!(size_of::<Load>() == 176 && size_of::<Ram>() == 10 && size_of::<Answer>() == 40 && size_of::<Outcome>() == 24);
-    assert!(size_of::<Step>() == 40 && size_of::<Filter>() == 40 && size_of::<Average>() == 8);
+    assert!(size_of::<Step>() == 40 && size_of::<Filter>() == 40 && size_of::<Average>() == 8 && size_of::<Scrub>() == 40);
     assert!(size_of::<SixTen>() == 4 && size_of::<Unsigned>() == 4 && size_of::<Signed>() == 4);
     assert!(size_of::<AccessPattern>() == 36 && size_of::<PixelEntry>() == 32);
 };
@@ -169,6 +179,9 @@ extern "C" {
     fn loamchalice_subpage_offsets(zero: *const i32, zero_length: usize, one: *const i32, one_length: usize, subpage: u8) -> Part;
     fn loamchalice_next_step(present: *const u8, present_length: usize, wanted: *const u8, wanted_length: usize) -> Step;
     fn loamchalice_burn(present: *mut u8, present_length: usize, wanted: *const u8, wanted_length: usize) -> Step;
+    fn loamchalice_scrub(
+        image: *mut u8, image_length: usize, changed: *mut u16, changed_length: usize, damaged: *mut u16, damaged_length: usize,
+    ) -> Scrub;
     fn loamchalice_load(
         image: *const u8, length: usize, basic_range: usize,
         offsets0: *mut i32, offsets0_length: usize, offsets1: *mut i32, offsets1_length: usize, alpha: *mut f32, alpha_length: usize,
@@ -279,6 +292,10 @@ pub fn next_step(present: &[u8], wanted: &[u8]) -> Step {
 
 pub fn burn(present: &mut [u8], wanted: &[u8]) -> Step {
     unsafe { loamchalice_burn(present.as_mut_ptr(), present.len(), wanted.as_ptr(), wanted.len()) }
+}
+
+pub fn scrub(image: &mut [u8], changed: &mut [u16], damaged: &mut [u16]) -> Scrub {
+    unsafe { loamchalice_scrub(image.as_mut_ptr(), image.len(), changed.as_mut_ptr(), changed.len(), damaged.as_mut_ptr(), damaged.len()) }
 }
 
 pub fn load(image: &[u8], basic_range: usize, [zero, one]: [&mut [i32]; 2], alpha: &mut [f32], k_v: &mut [f32], k_ta: &mut [f32]) -> Load {

@@ -21,11 +21,13 @@ mod card;
 mod filter;
 pub mod mlx90640;
 mod refusal;
+mod scrubbing;
 
 pub use burning::{burn, next_step, Burnt, Step};
 pub use card::Card;
 pub use filter::Filter;
 pub use refusal::Refusal;
+pub use scrubbing::{scrub, Scrubbed};
 
 /// A mask that asks for every pixel.
 pub const ALL_PIXELS: [bool; 192] = [true; 192];

@@ -1,5 +1,5 @@
 //! Readings of document 01 through the binding.
-use loamchalice::{burn, next_step, Burnt, Calibration, Card, Filter, RamData, Refusal, Settings, Subpage, ALL_PIXELS};
+use loamchalice::{burn, next_step, scrub, Burnt, Calibration, Card, Filter, RamData, Refusal, Settings, Subpage, ALL_PIXELS};
 
 const SOUND: &[u8] = include_bytes!("../../../cards/sound.bin");
 const ROOM: RamData = RamData { t_a_v_be: 19442, t_a_ptat: 1711, v_dd_pixel: -13115, gain: 6391, compensation_pixel: -105 };
@@ -220,4 +220,18 @@ fn an_average_that_is_no_number_loses_every_pixel_if_there_is_a_gradient() {
         assert_eq!(call.unwrap().lost, lost);
         assert_eq!(picture.iter().filter(|t| t.to_bits() == 0x7FC0_0000).count(), lost);
     }
+}
+
+#[test]
+fn a_card_is_mended_in_place() {
+    let mut card = include_bytes!("../../../cards/worn.bin").to_vec();
+    let first = scrub(&mut card).unwrap();
+    assert_eq!((first.changed(), first.damaged()), (&[16, 22, 45, 64, 200, 300, 500, 700, 831][..], &[100, 400][..]));
+    assert_eq!(card, include_bytes!("../../../crates/scrub_card/stdout"));
+    let scrubbed = card.clone();
+    let second = scrub(&mut card).unwrap();
+    assert_eq!((second.changed(), second.damaged()), (&[][..], &[100, 400][..]));
+    assert_eq!(card, scrubbed);
+    assert_eq!(scrub(&mut card[..1663]).err(), Some(Refusal::ShortImage { length: 1663 }));
+    assert_eq!(card, scrubbed);
 }
