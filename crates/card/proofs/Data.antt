@@ -33,11 +33,11 @@ module _ (image : List ℕ) (word d : ℕ) (e : readAt image word ≡ says d) wh
 -- a checked word says what it decodes to, any other 0
 pub read-checked : (image : List ℕ) (word : ℕ) → checked word ≡ true → readAt image word ≡ decoded (wordAt image word)
 unfolding readAt
-read-checked image word e = ap (λ (b : Bool). pick b (decoded (wordAt image word)) (says 0)) e
+read-checked image word e = rw e refl
 
 pub read-unchecked : (image : List ℕ) (word : ℕ) → checked word ≡ false → readAt image word ≡ says 0
 unfolding readAt
-read-unchecked image word e = ap (λ (b : Bool). pick b (decoded (wordAt image word)) (says 0)) e
+read-unchecked image word e = rw e refl
 
 said-of : (s : Said) → not (isSaid s) ≡ false → s ≡ says (saidData s)
 said-of (says d) e = refl
