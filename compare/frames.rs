@@ -348,9 +348,13 @@ fn one(tally: &mut Tally, powf: &mut [Powf; 2], n: &mut Numbers, label: &str) {
 }
 
 // The second pass, which the crate has not: from its infrared numbers and the rooted crate's temperatures, by document.rs. Corners rise but for one case in
-// eight; K and coefficients of other ranges are the card's, or wild.
+// eight; K and coefficients of other ranges are the card's, or wild; half of the frames are hot.
 fn ranged(tally: &mut Tally, n: &mut Numbers, label: &str, f: &Frame, before: &[u32]) {
     let mut f = f.clone();
+    if n.one_in(2) {
+        let raw = n.between(0, 12000);
+        f.pixels = (0..192).flat_map(|_| ((raw + n.between(-3000, 3000)) as i16).to_be_bytes()).collect();
+    }
     let r = &mut f.record;
     if n.one_in(2) {
         let mut corner = n.between(-300, 0) as i16;
@@ -382,6 +386,11 @@ fn ranged(tally: &mut Tally, n: &mut Numbers, label: &str, f: &Frame, before: &[
             for i in (0..wanted.len().min(192)).filter(|i| f.mask.get(*i).is_some_and(|byte| *byte != 0)) {
                 let alpha = f.tables.alpha.get(i).copied().unwrap_or(f32::NAN);
                 wanted[i] = document::ranged_temperature(&f, HEATS[f.heat], t_a, alpha, v[i], basic[i]);
+                let range = (1..8).rev().find(|k| f32::from(f.record.corner_temperatures[*k]) <= basic[i]).unwrap_or(0);
+                tally.count(&format!("second pass, pixels of range {range}"));
+                if (300.0..400.0).contains(&basic[i]) {
+                    tally.count("second pass, pixels of 300 to 400 degrees");
+                }
             }
             Some((t_a, wanted))
         }
