@@ -26,7 +26,7 @@ pub enum Refusal {
     ShortFrame { length: usize },
     /// 11: the wanted image has another unchecked word than the present one.
     UncheckedWord { word: usize },
-    /// 12: this corner temperature is not above the one before it. No call refuses by it yet.
+    /// 12: this corner temperature, 1 to 7, is not above the one before it. Of the second pass alone.
     UnorderedCorners { corner: usize },
     /// 13: what this range's coefficient is divided by is zero.
     ZeroFactor { range: usize },
