@@ -3,21 +3,9 @@
  *   cc -o target/example bindings/c/example.c target/libloamchalice.a
  *   target/example cards/sound.bin */
 #include "loamchalice.h"
+#include <errno.h>
 #include <stdio.h>
 #include <string.h>
-
-/* What the archive hands over, on a processor of 64 bits. */
-_Static_assert(sizeof(loamchalice_word) == 32 && sizeof(loamchalice_part) == 16 && sizeof(loamchalice_record) == 132, "layout");
-_Static_assert(sizeof(loamchalice_loaded) == 176 && sizeof(loamchalice_ram) == 10 && sizeof(loamchalice_answer) == 40 && sizeof(loamchalice_step) == 40, "layout");
-_Static_assert(sizeof(loamchalice_scrubbed) == 40, "layout");
-_Static_assert(sizeof(loamchalice_mlx90640_six_ten) == 4 && sizeof(loamchalice_mlx90640_unsigned) == 4 && sizeof(loamchalice_mlx90640_signed) == 4, "layout");
-_Static_assert(sizeof(loamchalice_mlx90640_access) == 36 && sizeof(loamchalice_mlx90640_entry) == 32, "layout");
-
-static float number(uint32_t bits) {
-    float x;
-    memcpy(&x, &bits, sizeof x);
-    return x;
-}
 
 int main(int argc, char **argv) {
     static uint8_t image[LOAMCHALICE_IMAGE_BYTES];
@@ -26,12 +14,16 @@ int main(int argc, char **argv) {
     static uint8_t pixels[384], mask[192];
     static uint32_t picture[192];
 
-    FILE *card = argc == 2 ? fopen(argv[1], "rb") : NULL;
-    if (card == NULL) {
+    if (argc != 2) {
         fprintf(stderr, "usage: example CARD\n");
         return 2;
     }
-    size_t length = fread(image, 1, sizeof image, card);
+    FILE *card = fopen(argv[1], "rb");
+    size_t length = card == NULL ? 0 : fread(image, 1, sizeof image, card);
+    if (card == NULL || ferror(card)) {
+        fprintf(stderr, "%s: %s\n", argv[1], strerror(errno));
+        return 2;
+    }
     fclose(card);
     loamchalice_loaded loaded =
         loamchalice_load(image, length, LOAMCHALICE_BASIC_RANGE, offsets0, 192, offsets1, 192, alpha, 192, k_v, 192, k_ta, 192);
@@ -59,9 +51,9 @@ int main(int argc, char **argv) {
         fprintf(stderr, "frame refused: %d at %lu\n", (int)frame.number, (unsigned long)frame.place);
         return 1;
     }
-    printf("inside %.2f, pixels lost %zu\n", number(frame.t_a), frame.lost);
+    printf("inside %.2f, pixels lost %zu\n", (double)loamchalice_float(frame.t_a), frame.lost);
     for (int i = 0; i < 192; i++) {
-        printf(i % 16 == 15 ? "%6.2f\n" : "%6.2f ", number(picture[i]));
+        printf(i % 16 == 15 ? "%6.2f\n" : "%6.2f ", (double)loamchalice_float(picture[i]));
     }
     return 0;
 }

@@ -19,15 +19,24 @@
  *  10  pixel bytes below 384, destination below 192 or mask   place: its length
  *      below 192; tested after 2 and before 6
  *  11  the wanted image has another unchecked word           place: the word's number
+ *  12  a corner temperature is not above the one before  place: the corner, 1 to 7
+ *      it; of the second pass alone, after 8
  *  13  what a range coefficient is divided by is zero        place: its range, the nearest below the basic one
  *  14  the MLX90640 has no such pixel: 768 or more           place: the pixel
  *
- * Pixels are floats lent as their bits, uint32_t: the same size and alignment as float. Every not-a-number that a call writes is 0x7FC00000. */
+ * Pixels stand row by row, 16 a row and 12 rows: pixel 16 x row + column, in the pixel bytes, the mask, the tables and the destination. A destination is lent as
+ * the bits of floats, uint32_t, since a float's bits can be lost on the way where it is not a number: loamchalice_float makes a number of them. Every
+ * not-a-number that a call writes is 0x7FC00000.
+ *
+ * An emissivity of 0 or not-a-number is refusal 8. Any other is taken as it is: 95 for 0.95, -1 or infinity give cold, good-looking answers. Ask for
+ * 0 < emissivity <= 1 before you call; loaded.calibration.emissivity is the card's own. resolution_correction is 2 to the power of the record's
+ * resolution less the camera's current one, both 0 to 3: 1 where they are the same. */
 #ifndef LOAMCHALICE_H
 #define LOAMCHALICE_H
 
 #include <stddef.h>
 #include <stdint.h>
+#include <string.h>
 
 #ifdef __cplusplus
 extern "C" {
@@ -259,6 +268,31 @@ loamchalice_mlx90640_access loamchalice_mlx90640_access_pattern(uint16_t word);
  * 1 an odd row and an even column, 2 an even row and an odd column, 3 both odd. Refusal 14. */
 loamchalice_mlx90640_entry loamchalice_mlx90640_interleave_entry(size_t pixel);
 loamchalice_mlx90640_entry loamchalice_mlx90640_chessboard_entry(size_t pixel);
+
+/* The number of bits that a call has written. */
+static inline float loamchalice_float(uint32_t bits) {
+    float x;
+    memcpy(&x, &bits, sizeof x);
+    return x;
+}
+
+/* What the archive hands over, on a processor of 64 bits. */
+#if defined(__cplusplus)
+#define LOAMCHALICE_ASSERT(test) static_assert(test, "Loamchalice's layout")
+#elif defined(__STDC_VERSION__) && __STDC_VERSION__ >= 201112L
+#define LOAMCHALICE_ASSERT(test) _Static_assert(test, "Loamchalice's layout")
+#else
+#define LOAMCHALICE_JOIN(a, b) a##b
+#define LOAMCHALICE_NAME(line) LOAMCHALICE_JOIN(loamchalice_layout_, line)
+#define LOAMCHALICE_ASSERT(test) typedef char LOAMCHALICE_NAME(__LINE__)[(test) ? 1 : -1]
+#endif
+LOAMCHALICE_ASSERT(sizeof(void *) == 8 && sizeof(size_t) == 8 && sizeof(float) == 4);
+LOAMCHALICE_ASSERT(sizeof(loamchalice_word) == 32 && sizeof(loamchalice_part) == 16 && sizeof(loamchalice_record) == 132);
+LOAMCHALICE_ASSERT(sizeof(loamchalice_loaded) == 176 && sizeof(loamchalice_ram) == 10 && sizeof(loamchalice_answer) == 40);
+LOAMCHALICE_ASSERT(sizeof(loamchalice_outcome) == 24 && sizeof(loamchalice_step) == 40 && sizeof(loamchalice_scrubbed) == 40);
+LOAMCHALICE_ASSERT(sizeof(loamchalice_filter) == 40 && sizeof(loamchalice_average) == 8);
+LOAMCHALICE_ASSERT(sizeof(loamchalice_mlx90640_six_ten) == 4 && sizeof(loamchalice_mlx90640_unsigned) == 4 && sizeof(loamchalice_mlx90640_signed) == 4);
+LOAMCHALICE_ASSERT(sizeof(loamchalice_mlx90640_access) == 36 && sizeof(loamchalice_mlx90640_entry) == 32);
 
 #ifdef __cplusplus
 }

@@ -5,6 +5,8 @@ use std::process::Command;
 fn main() {
     let repository = PathBuf::from(std::env::var("CARGO_MANIFEST_DIR").unwrap()).join("../..");
     let out = PathBuf::from(std::env::var("OUT_DIR").unwrap());
+    let (target, host) = (std::env::var("TARGET").unwrap(), std::env::var("HOST").unwrap());
+    assert!(target == host, "tools/archive makes the archive for {host} alone, not for {target}");
     let made = Command::new(repository.join("tools/archive")).arg(out.join("libloamchalice.a")).status();
     assert!(made.is_ok_and(|status| status.success()), "tools/archive failed: is the Rattle kit's rt on the PATH?");
     println!("cargo:rustc-link-search=native={}", out.display());

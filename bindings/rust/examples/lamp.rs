@@ -1,13 +1,25 @@
-//! The lamp box's loop: a card, frames, a limit; lamp down on any refusal, a short frame among them, or lost pixel.
+//! The lamp box's loop: a card, frames, a limit. The lamp goes down on any refusal, a short frame among them, on any lost pixel, and where a pixel that counts is
+//! not below the limit.
 //!   cargo run --offline --example lamp -- ../../cards/sound.bin
 use loamchalice::{Calibration, Filter, RamData, Refusal, Settings, Subpage, ALL_PIXELS};
 
 const LIMIT: f32 = 45.0;
 
+// A pixel that is known to be dead is not asked for, and does not count: its entry of the picture is not looked at.
+const DEAD: usize = 37;
+
 #[derive(Debug, PartialEq)]
 enum Lamp {
     On,
     Down(String),
+}
+
+struct Gate {
+    camera: Calibration,
+    settings: Settings,
+    mask: [bool; 192],
+    // of the compensation pixel, one for each subpage
+    filters: [Filter; 2],
 }
 
 // Stands for the camera's bus: the RAM words and the pixel bytes of one frame, a little warmer each time.
@@ -17,39 +29,44 @@ fn read_camera(frame: i16) -> (RamData, Vec<u8>) {
     (ram, pixels)
 }
 
-// A filter of the compensation pixel for each subpage.
-fn judge(camera: &Calibration, filters: &mut [Filter; 2], frame: i16, picture: &mut [f32; 192]) -> Result<Lamp, Refusal> {
+fn judge(gate: &mut Gate, frame: i16) -> Result<Lamp, Refusal> {
     let (ram, pixels) = read_camera(frame);
     let subpage = if frame % 2 == 0 { Subpage::Zero } else { Subpage::One };
-    let filter = &mut filters[subpage as usize];
+    let filter = &mut gate.filters[subpage as usize];
     filter.push(ram.compensation_pixel);
-    let average = filter.average();
-    let seen = camera.filtered_pixels_to_temperatures(&Settings::default(), ram, average, subpage, &pixels, &ALL_PIXELS, picture)?;
+    let mut picture = [f32::INFINITY; 192];
+    let seen = gate.camera.filtered_pixels_to_temperatures(&gate.settings, ram, filter.average(), subpage, &pixels, &gate.mask, &mut picture)?;
     if seen.lost > 0 {
-        return Ok(Lamp::Down(format!("{} pixels lost", seen.lost)));
+        return Ok(Lamp::Down(format!("{} of {} pixels lost", seen.lost, seen.written)));
     }
-    let hottest = picture.iter().copied().fold(f32::MIN, f32::max);
+    let hottest = gate.mask.iter().zip(picture).filter(|(asked, _)| **asked).map(|(_, t)| t).fold(f32::MIN, f32::max);
     println!("frame {frame}: inside {:.2}, hottest {hottest:.2}", seen.t_a);
     Ok(if hottest < LIMIT { Lamp::On } else { Lamp::Down(format!("{hottest:.2} seen")) })
 }
 
-fn main() {
-    let path = std::env::args().nth(1).unwrap_or_else(|| "../../cards/sound.bin".to_string());
-    let image = match std::fs::read(&path) {
-        Ok(image) => image,
-        Err(error) => return println!("lamp down: {path}: {error}"),
-    };
-    let camera = match Calibration::from_data(&image) {
-        Ok(camera) => camera,
-        Err(refusal) => return println!("lamp down: {path}: {refusal}"),
-    };
+fn open(path: &str) -> Result<Gate, String> {
+    let image = std::fs::read(path).map_err(|error| format!("{path}: {error}"))?;
+    let camera = Calibration::from_data(&image).map_err(|refusal| format!("{path}: {refusal}"))?;
     if camera.mended().count > 0 {
         println!("the card goes bad: {}", camera.mended());
     }
-    let mut picture = [0f32; 192];
-    let mut filters = [Filter::new(); 2];
+    let settings = camera.settings(camera.resolution());
+    if let Some(warning) = settings.warning() {
+        return Err(format!("{path}: {warning}"));
+    }
+    let mut mask = ALL_PIXELS;
+    mask[DEAD] = false;
+    Ok(Gate { camera, settings, mask, filters: [Filter::new(); 2] })
+}
+
+fn main() {
+    let path = std::env::args().nth(1).unwrap_or_else(|| "../../cards/sound.bin".to_string());
+    let mut gate = match open(&path) {
+        Ok(gate) => gate,
+        Err(why) => return println!("lamp down: {why}"),
+    };
     for frame in 0.. {
-        match judge(&camera, &mut filters, frame, &mut picture) {
+        match judge(&mut gate, frame) {
             Ok(Lamp::On) => {}
             Ok(Lamp::Down(why)) => return println!("lamp down: {why}"),
             Err(refusal) => return println!("lamp down: {refusal}"),

@@ -156,7 +156,7 @@ pub struct Scrub {
 
 // What the archive hands over, on a processor of 64 bits.
 const _: () = {
-    use std::mem::size_of;
+    use core::mem::size_of;
     assert!(size_of::<Word>() == 32 && size_of::<Part>() == 16 && size_of::<Record>() == 132);
     assert!(size_of::<Load>() == 176 && size_of::<Ram>() == 10 && size_of::<Answer>() == 40 && size_of::<Outcome>() == 24);
     assert!(size_of::<Step>() == 40 && size_of::<Filter>() == 40 && size_of::<Average>() == 8 && size_of::<Scrub>() == 40);

@@ -4,7 +4,9 @@ use crate::Refusal;
 /// A step of a burn: a word of the card, and what it becomes.
 #[derive(Clone, Copy, Debug, PartialEq, Eq)]
 pub struct Step {
+    /// Its number on the card.
     pub word: usize,
+    /// What it becomes.
     pub value: u16,
 }
 

@@ -14,7 +14,9 @@ use crate::{border, Refusal};
 /// ```
 #[derive(Clone, Debug, PartialEq, Eq)]
 pub struct Card {
+    /// Of the checked words, 0 to 2047 each.
     pub data: [u16; 814],
+    /// Words 0 to 15, 19 and 20.
     pub unchecked: [u16; 18],
 }
 

@@ -15,6 +15,8 @@
 //! assert!(picture.iter().all(|t| (15.0..35.0).contains(t)));
 //! # Ok::<(), loamchalice::Refusal>(())
 //! ```
+#![no_std]
+#![deny(missing_docs)]
 mod border;
 mod burning;
 mod card;
@@ -35,23 +37,33 @@ pub const ALL_PIXELS: [bool; 192] = [true; 192];
 /// Which half of the camera's readings a frame is of. Each covers all pixels.
 #[derive(Clone, Copy, Debug, PartialEq, Eq)]
 pub enum Subpage {
+    /// The first.
     Zero,
+    /// The second.
     One,
 }
 
 /// What a frame reads from the camera's RAM beside its pixels.
 #[derive(Clone, Copy, Debug, PartialEq, Eq)]
 pub struct RamData {
+    /// V_BE, beside PTAT in the ambient temperature.
     pub t_a_v_be: i16,
+    /// PTAT, which grows with the ambient temperature.
     pub t_a_ptat: i16,
+    /// What the supply reads.
     pub v_dd_pixel: i16,
+    /// What the gain reads.
     pub gain: i16,
+    /// What the compensation pixel of the frame's subpage reads.
     pub compensation_pixel: i16,
 }
 
-/// The caller's numbers. The defaults are mlx9064x's for this camera, for a body that reflects nothing.
+/// The caller's numbers. [`Calibration::settings`] makes them from a card, as mlx9064x's driver does; the defaults are for a card of emissivity 1 that was
+/// written at the camera's current resolution.
 #[derive(Clone, Copy, Debug, PartialEq)]
 pub struct Settings {
+    /// Of the body that is looked at, above 0 and at most 1. The calls refuse 0 and not-a-number alone: 95 for 0.95, -1 or infinity give cold, good-looking
+    /// answers. See [`Settings::warning`].
     pub emissivity: f32,
     /// See [`resolution_correction`].
     pub resolution_correction: f32,
@@ -71,6 +83,28 @@ impl Default for Settings {
     }
 }
 
+impl Settings {
+    /// What looks wrong in these numbers, though no call refuses it. A lamp box should not run with a warning.
+    ///
+    /// ```
+    /// use loamchalice::Settings;
+    /// assert_eq!(Settings::default().warning(), None);
+    /// assert!(Settings { emissivity: 95.0, ..Settings::default() }.warning().is_some());
+    /// ```
+    pub fn warning(&self) -> Option<&'static str> {
+        if !(self.emissivity > 0.0 && self.emissivity <= 1.0) {
+            return Some("the emissivity is not above 0 and at most 1");
+        }
+        if !(self.resolution_correction > 0.0 && self.resolution_correction.is_finite()) {
+            return Some("the resolution correction is no positive number");
+        }
+        if !(self.v_dd_0.is_finite() && self.self_heating.is_finite() && self.reflected.unwrap_or(0.0).is_finite()) {
+            return Some("the nominal supply, the self-heating or the reflected temperature is no number");
+        }
+        None
+    }
+}
+
 /// The camera's basic temperature range, by mlx9064x.
 pub const BASIC_RANGE: usize = 2;
 
@@ -79,17 +113,21 @@ pub const BASIC_RANGE: usize = 2;
 pub struct Frame {
     /// The ambient temperature: the camera's own.
     pub t_a: f32,
-    /// How many pixels this call wrote as not a number.
+    /// How many pixels this call wrote: those that the mask asks for.
+    pub written: usize,
+    /// How many of them as not a number.
     pub lost: usize,
 }
 
-/// 2 to the power of the card's resolution less the camera's current one, each 0 to 3.
+/// 2 to the power of the card's resolution less the camera's current one, each 0 to 3: what a reading of the supply is worth where the camera does not read
+/// as the card was written.
 ///
 /// ```
 /// assert_eq!(loamchalice::resolution_correction(2, 3), 0.5);
 /// ```
 pub fn resolution_correction(calibrated: u8, current: u8) -> f32 {
-    f32::from(i16::from(calibrated) - i16::from(current)).exp2()
+    let step = if calibrated < current { 0.5 } else { 2.0 };
+    (0..calibrated.abs_diff(current)).fold(1.0, |power, _| power * step)
 }
 
 /// The chip word of 11 bits of data. Refusal 9.
@@ -106,9 +144,15 @@ pub fn add_checksum(data: u16) -> Result<u16, Refusal> {
 /// What checking a chip word finds: a codeword, or one with a single bit flipped.
 #[derive(Clone, Copy, Debug, PartialEq, Eq)]
 pub enum Checked {
+    /// The data of a codeword.
     Clean(u16),
     /// The bit, 0 to 15, was flipped; the data are those of the codeword.
-    Mended { data: u16, bit: u8 },
+    Mended {
+        /// Of the codeword that is one flip away.
+        data: u16,
+        /// The flipped one, 0 to 15.
+        bit: u8,
+    },
 }
 
 impl Checked {
@@ -160,8 +204,8 @@ pub struct Mended {
     pub last: Option<usize>,
 }
 
-impl std::fmt::Display for Mended {
-    fn fmt(&self, f: &mut std::fmt::Formatter<'_>) -> std::fmt::Result {
+impl core::fmt::Display for Mended {
+    fn fmt(&self, f: &mut core::fmt::Formatter<'_>) -> core::fmt::Result {
         match (self.count, self.last) {
             (_, None) => write!(f, "no word mended"),
             (1, Some(last)) => write!(f, "1 word mended, {last}"),
@@ -262,6 +306,21 @@ impl Calibration {
         self.record.resolution
     }
 
+    /// Settings for this card: its own emissivity, and the resolution correction for the camera's current resolution, 0 to 3, which stands in bits 10 and 11 of
+    /// its control register (2 after power-on).
+    ///
+    /// ```
+    /// use loamchalice::Calibration;
+    /// let camera = Calibration::from_data(include_bytes!("../../../cards/sound.bin"))?;
+    /// let settings = camera.settings(2);
+    /// assert_eq!(settings.emissivity, camera.emissivity());
+    /// assert_eq!(settings.resolution_correction, loamchalice::resolution_correction(camera.resolution(), 2));
+    /// # Ok::<(), loamchalice::Refusal>(())
+    /// ```
+    pub fn settings(&self, current_resolution: u8) -> Settings {
+        Settings { emissivity: self.emissivity(), resolution_correction: resolution_correction(self.resolution(), current_resolution), ..Settings::default() }
+    }
+
     /// The emissivity on the card. No call uses it by itself.
     pub fn emissivity(&self) -> f32 {
         self.record.emissivity
@@ -277,6 +336,81 @@ impl Calibration {
         self.record.has_gradient = gradient.is_some().into();
         self.record.gradient = gradient.unwrap_or(0.0);
         self
+    }
+
+    /// The gain on the card, which a frame's own is compared with.
+    pub fn gain(&self) -> f32 {
+        self.record.gain
+    }
+
+    /// K_VDD, by which the supply reading is divided.
+    pub fn k_v_dd(&self) -> i16 {
+        self.record.k_v_dd
+    }
+
+    /// The supply reading at 25 degrees.
+    pub fn v_dd_25(&self) -> i16 {
+        self.record.v_dd_25
+    }
+
+    /// K_VPTAT.
+    pub fn k_v_ptat(&self) -> f32 {
+        self.record.k_v_ptat
+    }
+
+    /// K_TPTAT.
+    pub fn k_t_ptat(&self) -> f32 {
+        self.record.k_t_ptat
+    }
+
+    /// V_PTAT at 25 degrees.
+    pub fn v_ptat_25(&self) -> f32 {
+        self.record.v_ptat_25
+    }
+
+    /// alpha_PTAT.
+    pub fn alpha_ptat(&self) -> f32 {
+        self.record.alpha_ptat
+    }
+
+    /// K_sTa: how sensitivity goes with the ambient temperature.
+    pub fn k_s_ta(&self) -> f32 {
+        self.record.k_s_ta
+    }
+
+    /// K_sTo of the eight ranges.
+    pub fn k_s_to(&self) -> &[f32; 8] {
+        &self.record.k_s_to
+    }
+
+    /// The compensation pixel's offset.
+    pub fn offset_reference_cp(&self) -> i16 {
+        self.record.offset_reference_cp
+    }
+
+    /// The compensation pixel's sensitivity.
+    pub fn alpha_cp(&self) -> f32 {
+        self.record.alpha_cp
+    }
+
+    /// The compensation pixel's K_V.
+    pub fn k_v_cp(&self) -> f32 {
+        self.record.k_v_cp
+    }
+
+    /// The compensation pixel's K_Ta.
+    pub fn k_ta_cp(&self) -> f32 {
+        self.record.k_ta_cp
+    }
+
+    /// K_V of the pixels.
+    pub fn k_v_pixels(&self) -> &[f32; 192] {
+        &self.k_v
+    }
+
+    /// K_Ta of the pixels.
+    pub fn k_ta_pixels(&self) -> &[f32; 192] {
+        &self.k_ta
     }
 
     /// The corner temperatures of the eight ranges.
@@ -311,7 +445,7 @@ impl Calibration {
         destination: &mut [f32],
     ) -> Result<Frame, Refusal> {
         let reading = self.reading(settings, ram, subpage, pixels, valid_pixels);
-        answered(border::raw_pixels_to_ir_data(&reading, as_bits(destination)))
+        answered(border::raw_pixels_to_ir_data(&reading, as_bits(destination)), valid_pixels)
     }
 
     /// Infrared numbers to temperatures, in place, for the ambient temperature that the infrared call gave. A pixel whose mask is false stays as
@@ -319,7 +453,7 @@ impl Calibration {
     pub fn raw_ir_to_temperatures(&self, settings: &Settings, t_a: f32, valid_pixels: &[bool], destination: &mut [f32]) -> Result<Frame, Refusal> {
         let heat = self.heat(settings);
         let mask = as_bytes(valid_pixels);
-        answered(border::raw_ir_to_temperatures(self.record, settings.emissivity, t_a, &heat, mask, as_bits(destination)))
+        answered(border::raw_ir_to_temperatures(self.record, settings.emissivity, t_a, &heat, mask, as_bits(destination)), valid_pixels)
     }
 
     /// A whole frame in one pass: the temperatures of all 192 pixels. Refusals 6, 7, 8.
@@ -349,7 +483,7 @@ impl Calibration {
         destination: &mut [f32],
     ) -> Result<Frame, Refusal> {
         let reading = self.reading(settings, ram, subpage, pixels, valid_pixels);
-        answered(border::raw_pixels_to_temperatures(&reading, &self.heat(settings), as_bits(destination)))
+        answered(border::raw_pixels_to_temperatures(&reading, &self.heat(settings), as_bits(destination)), valid_pixels)
     }
 
     /// The second pass, for scenes beyond the basic range: each pixel's basic temperature is worked out as in one pass, and its temperature from that with
@@ -377,7 +511,7 @@ impl Calibration {
         destination: &mut [f32],
     ) -> Result<Frame, Refusal> {
         let reading = self.reading(settings, ram, subpage, pixels, valid_pixels);
-        answered(border::raw_pixels_to_ranged_temperatures(&reading, &self.heat(settings), as_bits(destination)))
+        answered(border::raw_pixels_to_ranged_temperatures(&reading, &self.heat(settings), as_bits(destination)), valid_pixels)
     }
 
     /// [`Calibration::raw_pixels_to_ir_data`] with what a [`Filter`] answers; `None` is that call. An average that is not a number refuses nothing: with a
@@ -394,7 +528,7 @@ impl Calibration {
         destination: &mut [f32],
     ) -> Result<Frame, Refusal> {
         let reading = self.reading(settings, ram, subpage, pixels, valid_pixels);
-        answered(border::filtered_pixels_to_ir_data(&reading, average, as_bits(destination)))
+        answered(border::filtered_pixels_to_ir_data(&reading, average, as_bits(destination)), valid_pixels)
     }
 
     /// [`Calibration::raw_pixels_to_temperatures`] with what a [`Filter`] answers; as above.
@@ -421,7 +555,7 @@ impl Calibration {
         destination: &mut [f32],
     ) -> Result<Frame, Refusal> {
         let reading = self.reading(settings, ram, subpage, pixels, valid_pixels);
-        answered(border::filtered_pixels_to_temperatures(&reading, average, &self.heat(settings), as_bits(destination)))
+        answered(border::filtered_pixels_to_temperatures(&reading, average, &self.heat(settings), as_bits(destination)), valid_pixels)
     }
 
     fn reading<'a>(&'a self, settings: &Settings, ram: RamData, subpage: Subpage, pixels: &'a [u8], valid_pixels: &'a [bool]) -> border::Reading<'a> {
@@ -454,17 +588,18 @@ impl Calibration {
 
 // A bool is a byte, 0 or 1.
 fn as_bytes(mask: &[bool]) -> &[u8] {
-    unsafe { std::slice::from_raw_parts(mask.as_ptr().cast(), mask.len()) }
+    unsafe { core::slice::from_raw_parts(mask.as_ptr().cast(), mask.len()) }
 }
 
 // An f32 is lent as its bits: any u32 is one.
 fn as_bits(numbers: &mut [f32]) -> &mut [u32] {
-    unsafe { std::slice::from_raw_parts_mut(numbers.as_mut_ptr().cast(), numbers.len()) }
+    unsafe { core::slice::from_raw_parts_mut(numbers.as_mut_ptr().cast(), numbers.len()) }
 }
 
-fn answered(answer: border::Answer) -> Result<Frame, Refusal> {
+fn answered(answer: border::Answer, valid_pixels: &[bool]) -> Result<Frame, Refusal> {
+    let written = valid_pixels.iter().take(192).filter(|asked| **asked).count();
     match Refusal::of(answer.number, answer.place, answer.value) {
         Some(refusal) => Err(refusal),
-        None => Ok(Frame { t_a: f32::from_bits(answer.t_a), lost: answer.lost }),
+        None => Ok(Frame { t_a: f32::from_bits(answer.t_a), written, lost: answer.lost }),
     }
 }

@@ -2,8 +2,11 @@
 //! Names follow mlx9064x's `mlx90640/eeprom.rs`. A card is not loaded yet.
 use crate::{border, Refusal};
 
+/// Pixels of a row.
 pub const WIDTH: usize = 32;
+/// Rows.
 pub const HEIGHT: usize = 24;
+/// All of them.
 pub const NUM_PIXELS: usize = WIDTH * HEIGHT;
 
 /// A word's upper six bits, signed, and its lower ten as they stand.

@@ -1,37 +1,74 @@
-use std::error::Error;
-use std::fmt;
+use core::error::Error;
+use core::fmt;
 
 /// What stops a call, before it has written anything. Lowest number first where there are several, but for 10, which comes after 2.
 #[derive(Clone, Copy, Debug, PartialEq, Eq)]
 pub enum Refusal {
     /// 1: the image is below 1,664 bytes.
-    ShortImage { length: usize },
+    ShortImage {
+        /// What there is.
+        length: usize,
+    },
     /// 2: a table has fewer than 192 entries. The tables of a [`Calibration`](crate::Calibration) never do.
     ShortTable,
     /// 3: a chip word is neither a codeword nor one flip away from one.
-    DamagedWord { word: usize, bits: u16 },
+    DamagedWord {
+        /// Its number on the card, 0 where one word is checked.
+        word: usize,
+        /// As it stands.
+        bits: u16,
+    },
     /// 4: the offset scale is 21 or more.
-    OffsetScale { scale: u16 },
+    OffsetScale {
+        /// As the card has it.
+        scale: u16,
+    },
     /// 6: the basic range is above 7.
-    BasicRange { range: usize },
+    BasicRange {
+        /// That was asked for.
+        range: usize,
+    },
     /// 7: the supply reading is too far from its reference.
     SupplyRange,
     /// 8: a divisor is zero, or the emissivity is zero or not a number.
     ZeroDivisor,
     /// 9: data to encode is above 2047.
-    DataTooLarge { data: u16 },
+    DataTooLarge {
+        /// That was to be encoded.
+        data: u16,
+    },
     /// 9: an entry of a [`Card`](crate::Card)'s data is above 2047.
-    ListedDataTooLarge { index: usize, data: u16 },
+    ListedDataTooLarge {
+        /// The first such entry.
+        index: usize,
+        /// What it is.
+        data: u16,
+    },
     /// 10: pixel bytes, destination or mask are too short for a frame. Arrays of 384, 192 and 192 never are.
-    ShortFrame { length: usize },
+    ShortFrame {
+        /// Of the first that is too short, in this order.
+        length: usize,
+    },
     /// 11: the wanted image has another unchecked word than the present one.
-    UncheckedWord { word: usize },
+    UncheckedWord {
+        /// The first such word.
+        word: usize,
+    },
     /// 12: this corner temperature, 1 to 7, is not above the one before it. Of the second pass alone.
-    UnorderedCorners { corner: usize },
+    UnorderedCorners {
+        /// The first such corner.
+        corner: usize,
+    },
     /// 13: what this range's coefficient is divided by is zero.
-    ZeroFactor { range: usize },
+    ZeroFactor {
+        /// The nearest below the basic range.
+        range: usize,
+    },
     /// 14: the pixel number is 768 or more, which the MLX90640 does not have.
-    PixelNumber { pixel: usize },
+    PixelNumber {
+        /// That was asked for.
+        pixel: usize,
+    },
 }
 
 impl Refusal {

@@ -10,10 +10,12 @@ pub struct Scrubbed {
 }
 
 impl Scrubbed {
+    /// The words that became their codewords.
     pub fn changed(&self) -> &[u16] {
         &self.changed[..self.counts[0]]
     }
 
+    /// The words that stay, since no codeword is one flip away.
     pub fn damaged(&self) -> &[u16] {
         &self.damaged[..self.counts[1]]
     }
