@@ -46,7 +46,7 @@ pub enum Subpage {
 }
 
 // The length of the shortest of five tables.
-fn shortest_of(offsets0: usize, offsets1: usize, alpha: usize, k_v: usize, k_ta: usize) -> usize
+pub fn shortest_of(offsets0: usize, offsets1: usize, alpha: usize, k_v: usize, k_ta: usize) -> usize
     ensures { λ r. ⌜ r ≡ min (min offsets0 offsets1) (min alpha (min «k_v» «k_ta»)) ⌝ }
 {
     util::least(
