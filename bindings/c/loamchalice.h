@@ -78,6 +78,19 @@ typedef struct {
     loamchalice_record calibration;
 } loamchalice_loaded;
 
+/* A card as it arrives: beside an array of LOAMCHALICE_IMAGE_BYTES for its bytes. */
+typedef struct {
+    size_t count;  /* bytes that are kept */
+    uint8_t ended; /* 0 while more are wanted */
+    loamchalice_loaded answer; /* once ended */
+} loamchalice_reader;
+
+/* While `reader.ended` is 0, number 0 in the answer is "more wanted", and 2 says that the tables are short and the piece was not taken. */
+typedef struct {
+    loamchalice_reader reader;
+    loamchalice_loaded answer;
+} loamchalice_taken;
+
 /* What a frame reads from the camera's RAM beside its pixels. */
 typedef struct {
     int16_t t_a_v_be, t_a_ptat, v_dd_pixel, gain, compensation_pixel;
@@ -122,6 +135,19 @@ loamchalice_loaded loamchalice_load(
     const uint8_t *image, size_t image_length, size_t basic_range,
     int32_t *offsets0, size_t offsets0_length, int32_t *offsets1, size_t offsets1_length,
     float *alpha, size_t alpha_length, float *k_v, size_t k_v_length, float *k_ta, size_t k_ta_length);
+
+/* A reader before its first byte. */
+loamchalice_reader loamchalice_reader_new(void);
+
+/* Takes a piece of any length; its bytes go into the array of 1,664. A damaged word is told on the piece that completes it, all else with the last byte,
+ * and then the tables lent with that piece are filled. Once ended, every call repeats the answer. Refusals 2, 3, 4, 6, 13. */
+loamchalice_taken loamchalice_reader_take(
+    uint8_t *image, loamchalice_reader reader, const uint8_t *piece, size_t piece_length, size_t basic_range,
+    int32_t *offsets0, size_t offsets0_length, int32_t *offsets1, size_t offsets1_length,
+    float *alpha, size_t alpha_length, float *k_v, size_t k_v_length, float *k_ta, size_t k_ta_length);
+
+/* No more bytes come: refusal 1 with the bytes so far, and the reading has ended; once ended the same again. */
+loamchalice_reader loamchalice_reader_finished(loamchalice_reader reader);
 
 /* Writes a card to the first 1,664 bytes of an image; later bytes stay. In reading order, `data` has the 814 data of the checked words and
  * `others` the 18 words that are not checked: 0 to 15, 19 and 20. Refusals 1, 2, 9. */

@@ -3,6 +3,7 @@
 use borrow.Author.Needs.{needs}
 use borrow.Author.Tests.{lt-ltb, le-ltb, le-leb, lt-leb, eq-eqb, ne-eqb}
 use mathlib.Core.Path.{_≡_, sym, ap, _∙_}
+use Rattle.map.specs.Map.{cardWords, imageBytes}
 use Rattle.card.specs.declared.Read.{Read}
 use Rattle.reader.specs.Bytes.{completes, oneMore}
 use Rattle.reader.proofs.one.Statement.{statement}
@@ -10,22 +11,22 @@ use Rattle.reader.proofs.one.Tie as tie
 
 returns : tie.Need-returns
 unfolding oneMore
-returns c = simp (lt-ltb _ _ (c .if1 .taken))
+returns c = simp (lt-ltb _ cardWords (c .if1 .taken))
 
 returns-2 : tie.Need-returns-2
 unfolding oneMore
-returns-2 c = simp (le-ltb _ _ (c .before .if1 .left), le-leb _ _ (c .if2 .taken))
+returns-2 c = simp (le-ltb _ cardWords (c .before .if1 .left), le-leb imageBytes _ (c .if2 .taken))
 
 returns-3 : tie.Need-returns-3
 unfolding oneMore completes
-returns-3 c = simp (le-ltb _ _ (c .before .before .if1 .left), lt-leb _ _ (c .before .if2 .left), eq-eqb _ _ (c .if3 .taken))
+returns-3 c = simp (le-ltb _ cardWords (c .before .before .if1 .left), lt-leb imageBytes _ (c .before .if2 .left), eq-eqb _ _ (c .if3 .taken))
 
 returns-4 : tie.Need-returns-4
 unfolding oneMore completes
 returns-4 c =
     simp (
-      le-ltb _ _ (c .before .before .before .before .before .before .if1 .left),
-      lt-leb _ _ (c .before .before .before .before .before .if2 .left),
+      le-ltb _ cardWords (c .before .before .before .before .before .before .if1 .left),
+      lt-leb imageBytes _ (c .before .before .before .before .before .if2 .left),
       ne-eqb _ _ (c .before .before .before .before .if3 .left),
       sym (ap (λ (r : Read). r .damaged) (c .before .read-word .ensures)) ∙ c .if4 .taken,
     )
@@ -34,8 +35,8 @@ returns-5 : tie.Need-returns-5
 unfolding oneMore completes
 returns-5 c =
     simp (
-      le-ltb _ _ (c .before .before .before .before .before .before .if1 .left),
-      lt-leb _ _ (c .before .before .before .before .before .if2 .left),
+      le-ltb _ cardWords (c .before .before .before .before .before .before .if1 .left),
+      lt-leb imageBytes _ (c .before .before .before .before .before .if2 .left),
       ne-eqb _ _ (c .before .before .before .before .if3 .left),
       sym (ap (λ (r : Read). r .damaged) (c .before .read-word .ensures)) ∙ c .if4 .left,
     )
