@@ -316,6 +316,7 @@ LOAMCHALICE_ASSERT(sizeof(void *) == 8 && sizeof(size_t) == 8 && sizeof(float) =
 LOAMCHALICE_ASSERT(sizeof(loamchalice_word) == 32 && sizeof(loamchalice_part) == 16 && sizeof(loamchalice_record) == 132);
 LOAMCHALICE_ASSERT(sizeof(loamchalice_loaded) == 176 && sizeof(loamchalice_ram) == 10 && sizeof(loamchalice_answer) == 40);
 LOAMCHALICE_ASSERT(sizeof(loamchalice_outcome) == 24 && sizeof(loamchalice_step) == 40 && sizeof(loamchalice_scrubbed) == 40);
+LOAMCHALICE_ASSERT(sizeof(loamchalice_reader) == 192 && sizeof(loamchalice_taken) == 368);
 LOAMCHALICE_ASSERT(sizeof(loamchalice_filter) == 40 && sizeof(loamchalice_average) == 8);
 LOAMCHALICE_ASSERT(sizeof(loamchalice_mlx90640_six_ten) == 4 && sizeof(loamchalice_mlx90640_unsigned) == 4 && sizeof(loamchalice_mlx90640_signed) == 4);
 LOAMCHALICE_ASSERT(sizeof(loamchalice_mlx90640_access) == 36 && sizeof(loamchalice_mlx90640_entry) == 32);

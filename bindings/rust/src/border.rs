@@ -154,12 +154,28 @@ pub struct Scrub {
     pub damaged: usize,
 }
 
+#[repr(C)]
+#[derive(Clone, Copy, Debug)]
+pub struct Reader {
+    pub count: usize,
+    pub ended: u8,
+    pub answer: Load,
+}
+
+#[repr(C)]
+#[derive(Clone, Copy, Debug)]
+pub struct Taken {
+    pub reader: Reader,
+    pub answer: Load,
+}
+
 // What the archive hands over, on a processor of 64 bits.
 const _: () = {
     use core::mem::size_of;
     assert!(size_of::<Word>() == 32 && size_of::<Part>() == 16 && size_of::<Record>() == 132);
     assert!(size_of::<Load>() == 176 && size_of::<Ram>() == 10 && size_of::<Answer>() == 40 && size_of::<Outcome>() == 24);
     assert!(size_of::<Step>() == 40 && size_of::<Filter>() == 40 && size_of::<Average>() == 8 && size_of::<Scrub>() == 40);
+    assert!(size_of::<Reader>() == 192 && size_of::<Taken>() == 368);
     assert!(size_of::<SixTen>() == 4 && size_of::<Unsigned>() == 4 && size_of::<Signed>() == 4);
     assert!(size_of::<AccessPattern>() == 36 && size_of::<PixelEntry>() == 32);
 };
@@ -182,6 +198,13 @@ extern "C" {
     fn loamchalice_scrub(
         image: *mut u8, image_length: usize, changed: *mut u16, changed_length: usize, damaged: *mut u16, damaged_length: usize,
     ) -> Scrub;
+    fn loamchalice_reader_new() -> Reader;
+    fn loamchalice_reader_take(
+        image: *mut u8, reader: Reader, piece: *const u8, piece_length: usize, basic_range: usize,
+        offsets0: *mut i32, offsets0_length: usize, offsets1: *mut i32, offsets1_length: usize, alpha: *mut f32, alpha_length: usize,
+        k_v: *mut f32, k_v_length: usize, k_ta: *mut f32, k_ta_length: usize,
+    ) -> Taken;
+    fn loamchalice_reader_finished(reader: Reader) -> Reader;
     fn loamchalice_load(
         image: *const u8, length: usize, basic_range: usize,
         offsets0: *mut i32, offsets0_length: usize, offsets1: *mut i32, offsets1_length: usize, alpha: *mut f32, alpha_length: usize,
@@ -316,6 +339,46 @@ pub fn load(image: &[u8], basic_range: usize, [zero, one]: [&mut [i32]; 2], alph
             k_ta.len(),
         )
     }
+}
+
+pub fn reader_new() -> Reader {
+    unsafe { loamchalice_reader_new() }
+}
+
+#[allow(clippy::too_many_arguments)]
+pub fn reader_take(
+    image: &mut [u8; 1664],
+    reader: Reader,
+    piece: &[u8],
+    basic_range: usize,
+    [zero, one]: [&mut [i32]; 2],
+    alpha: &mut [f32],
+    k_v: &mut [f32],
+    k_ta: &mut [f32],
+) -> Taken {
+    unsafe {
+        loamchalice_reader_take(
+            image.as_mut_ptr(),
+            reader,
+            piece.as_ptr(),
+            piece.len(),
+            basic_range,
+            zero.as_mut_ptr(),
+            zero.len(),
+            one.as_mut_ptr(),
+            one.len(),
+            alpha.as_mut_ptr(),
+            alpha.len(),
+            k_v.as_mut_ptr(),
+            k_v.len(),
+            k_ta.as_mut_ptr(),
+            k_ta.len(),
+        )
+    }
+}
+
+pub fn reader_finished(reader: Reader) -> Reader {
+    unsafe { loamchalice_reader_finished(reader) }
 }
 
 pub fn raw_pixels_to_ir_data(r: &Reading, destination: &mut [u32]) -> Answer {

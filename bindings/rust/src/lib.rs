@@ -22,12 +22,14 @@ mod burning;
 mod card;
 mod filter;
 pub mod mlx90640;
+mod reader;
 mod refusal;
 mod scrubbing;
 
 pub use burning::{burn, next_step, Burnt, Step};
 pub use card::Card;
 pub use filter::Filter;
+pub use reader::Reader;
 pub use refusal::Refusal;
 pub use scrubbing::{scrub, Scrubbed};
 
@@ -287,6 +289,11 @@ impl Calibration {
         let (mut offsets, mut alpha, mut k_v, mut k_ta) = ([[0; 192]; 2], [0.0; 192], [0.0; 192], [0.0; 192]);
         let [zero, one] = &mut offsets;
         let loaded = border::load(image, basic_range, [zero, one], &mut alpha, &mut k_v, &mut k_ta);
+        Self::of(loaded, offsets, alpha, k_v, k_ta)
+    }
+
+    // What a load answers, with the tables that it has filled.
+    fn of(loaded: border::Load, offsets: [[i32; 192]; 2], alpha: [f32; 192], k_v: [f32; 192], k_ta: [f32; 192]) -> Result<Self, Refusal> {
         match Refusal::of(loaded.number, loaded.place, loaded.value) {
             Some(refusal) => Err(refusal),
             None => {

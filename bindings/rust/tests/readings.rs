@@ -1,5 +1,5 @@
 //! Readings of document 01 through the binding.
-use loamchalice::{burn, next_step, scrub, Burnt, Calibration, Card, Filter, RamData, Refusal, Settings, Subpage, ALL_PIXELS};
+use loamchalice::{burn, next_step, scrub, Burnt, Calibration, Card, Filter, RamData, Reader, Refusal, Settings, Subpage, ALL_PIXELS};
 
 const SOUND: &[u8] = include_bytes!("../../../cards/sound.bin");
 const ROOM: RamData = RamData { t_a_v_be: 19442, t_a_ptat: 1711, v_dd_pixel: -13115, gain: 6391, compensation_pixel: -105 };
@@ -234,4 +234,33 @@ fn a_card_is_mended_in_place() {
     assert_eq!(card, scrubbed);
     assert_eq!(scrub(&mut card[..1663]).err(), Some(Refusal::ShortImage { length: 1663 }));
     assert_eq!(card, scrubbed);
+}
+
+// However a card is cut, it ends as a load does, on the piece that document 02 says.
+#[test]
+fn a_card_in_pieces_ends_as_a_load() {
+    let cards: [&[u8]; 4] =
+        [SOUND, include_bytes!("../../../cards/mended.bin"), include_bytes!("../../../cards/damaged.bin"), include_bytes!("../../../cards/blank.bin")];
+    for card in cards {
+        for size in [1, 2, 63, 64, 1663, 1664, 2000] {
+            let mut reader = Reader::new();
+            let mut heard = 0;
+            let ended = card.chunks(size).find_map(|piece| {
+                assert!(reader.take(&[]).is_ok_and(|none| none.is_none()));
+                heard += piece.len();
+                reader.take(piece).map_or_else(|refusal| Some(Err(refusal)), |done| done.map(Ok))
+            });
+            let whole = Calibration::from_data(card);
+            let shown = |c: &Calibration| format!("{c:?}");
+            assert_eq!(ended.as_ref().unwrap().as_ref().map(shown), whole.as_ref().map(shown));
+            assert_eq!(reader.take(&[7; 9]).map(|again| shown(&again.unwrap())), whole.as_ref().map(shown).map_err(|r| *r));
+            assert_eq!(reader.finished().as_ref().map(shown), whole.as_ref().map(shown));
+            // A damaged word is heard on the piece that completes it.
+            if let Err(Refusal::DamagedWord { word, .. }) = whole {
+                assert!(heard >= 2 * word + 2 && heard - (2 * word + 2) < size);
+            } else {
+                assert_eq!(heard, 1664);
+            }
+        }
+    }
 }
