@@ -274,10 +274,8 @@ pub fn filtered_pixels_to_temperatures(f: &Frame, average: Option<f32>, destinat
 }
 
 pub fn raw_pixels_to_ranged_temperatures(f: &Frame, destination: &mut [u32]) -> Answer {
-    let before = destination.to_vec();
     let mut answer = border::raw_pixels_to_ranged_temperatures(&reading(f), &heat(f), destination);
     if planted("second-pass-is-the-first") && answer.number == 0 {
-        destination.copy_from_slice(&before);
         answer = border::raw_pixels_to_temperatures(&reading(f), &heat(f), destination);
     }
     if planted("corners-one-lower") && answer.number == 12 {

@@ -147,12 +147,15 @@ fn main() {
     let mut tables = frames[0].tables.clone();
     let words = words();
     let mut least = [[f64::MAX; 3]; 7];
+    let (mut filtered, mut ranged) = (f64::MAX, f64::MAX);
     let keep = |slot: &mut f64, t: f64| *slot = slot.min(t);
     for _ in 0..ROUNDS {
         let pass = &mut least[0];
         keep(&mut pass[0], time(FRAMES, |k| { black_box(published::one_pass(&p, black_box(&frames[k % 16]), black_box(&mut a))); }));
         keep(&mut pass[1], time(FRAMES, |k| { black_box(rooted::one_pass(&r, black_box(&frames[k % 16]), black_box(&mut a))); }));
         keep(&mut pass[2], time(FRAMES, |k| { black_box(library::raw_pixels_to_temperatures(black_box(&frames[k % 16]), black_box(&mut b))); }));
+        keep(&mut filtered, time(FRAMES, |k| { black_box(library::filtered_pixels_to_temperatures(black_box(&frames[k % 16]), Some(-105.5), black_box(&mut b))); }));
+        keep(&mut ranged, time(FRAMES, |k| { black_box(library::raw_pixels_to_ranged_temperatures(black_box(&frames[k % 16]), black_box(&mut b))); }));
         let infrared = &mut least[1];
         keep(&mut infrared[0], time(FRAMES, |k| { black_box(published::infrared(&p, black_box(&frames[k % 16]), black_box(&mut a))); }));
         keep(&mut infrared[1], time(FRAMES, |k| { black_box(rooted::infrared(&r, black_box(&frames[k % 16]), black_box(&mut a))); }));
@@ -175,6 +178,9 @@ fn main() {
     }
     println!("least of {ROUNDS} rounds; {FRAMES} frames, {LOADS} loads and {SWEEPS} times every word in each");
     line("one pass, a frame", least[0]);
+    for (what, time) in [("with a filter's answer", filtered), ("the second pass", ranged)] {
+        println!("{what}, a frame\tlibrary {time:.0} ns\tover one pass {:.2}", time / least[0][2]);
+    }
     line("of it, pixels to infrared", least[1]);
     line("of it, infrared to temperature", least[2]);
     line("load, a card", least[3]);
