@@ -5,10 +5,12 @@ mod Fractions
 mod Squares
 mod Magnitude
 mod Unique
+mod Digits
 mod Exists
 mod Values
 mod Bits
 mod Fourth
+mod Open
 mod Kelvin
 pub mod Apart
 pub mod Ends

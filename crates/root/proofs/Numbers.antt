@@ -1,10 +1,10 @@
--- A sum, a difference or a product that is a number has numbers for its parts. Assumes nothing.
+-- A sum, a difference or a product that is a number has numbers for its parts, and what is above something is one. Assumes nothing.
 use Prim.Native.Nat.{ℕ, _%_, _<_}
 use native.Mathlib.Omega.{arith}
-use mathlib.Core.Path.{sym, _∙_, subst}
-use mathlib.Core.Bool.{Bool, not}
+use mathlib.Core.Path.{_≡_, sym, _∙_, subst}
+use mathlib.Core.Bool.{Bool, true, not}
 use lib.Dec.{T}
-use lib.Ieee.{Float, nan, inf, fin, Format, binary64, add, sub, mul, neg, isNan, nanBits}
+use lib.Ieee.{Float, nan, inf, fin, Format, binary64, add, sub, mul, neg, lt, isNan, nanBits}
 use lib.Ieee.Bits.{nanBits-above}
 use borrow.Author.Tests.{le-ltb}
 
@@ -34,6 +34,15 @@ unfolding mul isNan
 mul-left f nan y h = h
 mul-left f (inf s) y h = tt
 mul-left f (fin s m e) y h = tt
+
+-- what is above something is a number
+pub above-number : (x y : Float) → lt x y ≡ true → Number y
+unfolding lt isNan
+above-number nan nan e = subst T (sym e) tt
+above-number (inf s) nan e = subst T (sym e) tt
+above-number (fin s m d) nan e = subst T (sym e) tt
+above-number x (inf t) e = tt
+above-number x (fin t n d) e = tt
 
 -- no binary64 pattern below the infinity's is a not-a-number's
 pub number-64 : (b : ℕ) → b < 0x7FF0000000000000 → T (not (nanBits binary64 b))

@@ -1,5 +1,6 @@
 // The fourth root of a binary32: two square roots, each the nearest, settled by comparing whole squares.
 pub mod guess;
+pub mod many;
 mod rows;
 mod whole;
 
