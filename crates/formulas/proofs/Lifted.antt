@@ -11,7 +11,7 @@ use Rattle.formulas.specs.declared.Reflected.{Reflected}
 use Rattle.formulas.specs.declared.Deduction.{Deduction}
 use Rattle.formulas.specs.declared.Deduction.the-variants.{Nothing, Amount}
 use Rattle.formulas.specs.Pixel.{less, plainOf, infraredOf, reflectedOf, tArOf, sensitivityOf, finalOf}
-use Rattle.formulas.specs.Inner.{deducted, deductionBy, compensationOf, alphaDeductionOf, correctionOf, commonToOf, liftedSensitivity, liftedFinal}
+use Rattle.formulas.specs.Inner.{deducted, deductionBy, compensationOf, alphaDeductionOf, correctionOf, commonToOf, liftedSensitivity, liftedUnder, liftedFrom, liftedFinal}
 
 -- a deduction by a gradient is what the gradient subtracts
 by-gradient : (gradient : Gradient) (y : Float → Float) (x : Float) → deducted x (deductionBy gradient y) ≡ less gradient y x
@@ -29,7 +29,7 @@ module _ (c : Calibration) (emissivity tA : Float) (reflected : Reflected) (k : 
   sensitivity alpha = rw (by-gradient (c .«temperature_gradient_coefficient») _ alpha)
 
   pub final : (v A : Float) → liftedFinal v A (commonToOf c emissivity tA reflected k) ≡ finalOf k (tArOf tA (reflectedOf reflected tA) emissivity) A v
-  unfolding liftedFinal commonToOf finalOf
+  unfolding liftedUnder liftedFrom liftedFinal commonToOf finalOf
   final v A = refl
 
 -- ---- v and X are binary32

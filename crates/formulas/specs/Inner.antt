@@ -45,11 +45,15 @@ commonToOf c emissivity tA reflected k = record {
   slope = one ⊖ k ⊗ freezing;
 }
 
--- A and X over that
+-- A over that; what the root in X is taken of, X from that root r, and X
 unfoldable pub liftedSensitivity : Float → CommonToData → Float
 liftedSensitivity alpha c = deducted alpha (c .«alpha_deduction») ⊗ c .correction
 
+unfoldable pub liftedUnder : Float → Float → CommonToData → Float
+liftedUnder v A c = cube A ⊗ v ⊕ fourth A ⊗ c .«t_ar»
+
+unfoldable pub liftedFrom : Float → Float → Float → CommonToData → Float
+liftedFrom v A r c = v ⊘ (A ⊗ c .slope ⊕ c .«k_s_to» ⊗ r) ⊕ c .«t_ar»
+
 unfoldable pub liftedFinal : Float → Float → CommonToData → Float
-liftedFinal v A c =
-    let s = c .«k_s_to» ⊗ root (cube A ⊗ v ⊕ fourth A ⊗ c .«t_ar») in
-    v ⊘ (A ⊗ c .slope ⊕ s) ⊕ c .«t_ar»
+liftedFinal v A c = liftedFrom v A (root (liftedUnder v A c)) c

@@ -1,9 +1,10 @@
 // The formulas of a frame, in document 01's order of operations, each step an f32 rounded once. Every function is total.
 ghost use mathlib.Core.Path.{_≡_};
-ghost use Rattle.root.specs.Root.{celsius};
+ghost use Rattle.floats.specs.Floats.{_⊖_};
+ghost use Rattle.floats.specs.Constants.{freezing};
 ghost use Rattle.formulas.specs.Frame.{deltaOf, supplyOf, denominatorOf, artOf, ptatCorrectionOf, ambientOf, commonOf};
-ghost use Rattle.formulas.specs.Pixel.{plainOf, fourth, reflectedOf, tArOf, answerOf};
-ghost use Rattle.formulas.specs.Inner.{deducted, compensationOf, alphaDeductionOf, correctionOf, commonToOf, liftedSensitivity, liftedFinal};
+ghost use Rattle.formulas.specs.Pixel.{plainOf, fourth, reflectedOf, tArOf, decided};
+ghost use Rattle.formulas.specs.Inner.{deducted, compensationOf, alphaDeductionOf, correctionOf, commonToOf, liftedSensitivity, liftedUnder, liftedFrom};
 use calibration::Calibration;
 use calibration::Gradient;
 
@@ -229,27 +230,33 @@ pub fn sensitivity(alpha: f32, common: CommonToData) -> f32
     deduct(alpha, by) * common.correction
 }
 
-// The final value under the fourth root, document 01's X, from a pixel's infrared number and its A.
-pub fn final_value(v_ir: f32, a: f32, common: CommonToData) -> f32
-    ensures { λ r. ⌜ r ≡ liftedFinal «v_ir» a common ⌝ }
+// What the root in the final value is taken of, from a pixel's infrared number and its A.
+pub fn under_root(v_ir: f32, a: f32, common: CommonToData) -> f32
+    ensures { λ r. ⌜ r ≡ liftedUnder «v_ir» a common ⌝ }
 {
     let cubed = (a * a) * a;
-    let s = common.k_s_to * root::fourth_root(cubed * v_ir + fourth_power(a) * common.t_ar);
+    cubed * v_ir + fourth_power(a) * common.t_ar
+}
+
+// The final value under the fourth root, document 01's X, from a pixel's infrared number, its A and that root.
+pub fn final_value(v_ir: f32, a: f32, root: f32, common: CommonToData) -> f32
+    ensures { λ r. ⌜ r ≡ liftedFrom «v_ir» a root common ⌝ }
+{
+    let s = common.k_s_to * root;
     v_ir / (a * common.slope + s) + common.t_ar
 }
 
-// The temperature of a final value.
-pub fn temperature(value: f32) -> f32
-    ensures { λ r. ⌜ r ≡ celsius value ⌝ }
+// The temperature, from the root of the final value.
+pub fn degrees(root: f32) -> f32
+    ensures { λ r. ⌜ r ≡ root ⊖ freezing ⌝ }
 {
-    root::fourth_root(value) - 273.15
+    root - 273.15
 }
 
-// What a pixel gives, from its infrared number and its final value.
-pub fn pixel_answer(v_ir: f32, value: f32) -> Pixel
-    ensures { λ r. ⌜ r ≡ answerOf value «v_ir» ⌝ }
+// What a pixel gives, from its infrared number and its temperature.
+pub fn pixel_answer(v_ir: f32, t: f32) -> Pixel
+    ensures { λ r. ⌜ r ≡ decided t «v_ir» ⌝ }
 {
-    let t = temperature(value);
     if t != t {
         Pixel::Lost(v_ir)
     } else {

@@ -1,4 +1,4 @@
--- Pixels in stages are pixels at once: infrared numbers that a destination holds are those it was written with, and a final value that was
+-- Pixels in stages are pixels at once: infrared numbers that a destination holds are those it was written with, and a temperature that was
 -- put by gives the pixel's answer. Assumes nothing.
 use Prim.Native.Nat.{ℕ, _≤_, _<_}
 use mathlib.Core.Path.{_≡_, refl, ap, _∙_}
@@ -15,9 +15,10 @@ use Rattle.lists.proofs.Count.{count-same}
 use Rattle.lists.proofs.Written.{written-at}
 use Rattle.floats.specs.Constants.{pattern}
 use Rattle.map.specs.Map.{framePixels}
-use Rattle.formulas.specs.Pixel.{answerOf}
+use Rattle.formulas.specs.Pixel.{decided}
 use Rattle.pixels.specs.Pixels.{touched, held, infraredBits, answerBits, temperatureBits, into, lostOf}
-use Rattle.pixels.specs.Inner.{valueAt}
+use Rattle.pixels.specs.Inner.{valueAt, decidedBits}
+use Rattle.pixels.specs.Blocks.{Asked}
 
 -- an entry that was written
 at-asked : {A : Type 0} (touch : ℕ → Bool) (val : ℕ → A) (n : ℕ) (d : List A) (k : ℕ) (z : A) → n ≤ length d → k < n → touch k ≡ true → getD (written touch val n d) k z ≡ val k
@@ -35,14 +36,17 @@ module _ (mask : List ℕ) (b c : ℕ → ℕ) (same : (k : ℕ) → k < framePi
   pub same-into : (d : List ℕ) → into mask b d ≡ into mask c d
   same-into d = written-same (touched mask) b c framePixels d same
 
--- ---- final values first, then answers
+-- ---- temperatures first, then answers
 
-module _ (mask : List ℕ) (X v : ℕ → Float) (empty : List Float) (l : framePixels ≤ length empty) where
-  abbrev values : List Float
-  values = written (touched mask) X framePixels empty
+module _ (mask : List ℕ) (T v : ℕ → Float) (temperatures : List Float) (a : Asked mask T framePixels temperatures) where
+  told : (k : ℕ) → k < framePixels → touched mask k ≡ true → decidedBits (valueAt temperatures) v k ≡ decidedBits T v k
+  told k h t = ap (λ (x : Float). answerBits (decided x (v k))) (a .at k h t)
 
-  pub staged : (k : ℕ) → k < framePixels → touched mask k ≡ true → temperatureBits (valueAt values) v k ≡ temperatureBits X v k
-  staged k h t = ap (λ (x : Float). answerBits (answerOf x (v k))) (at-asked (touched mask) X framePixels empty k nan l h t)
+  pub asked-lost : lostOf mask (decidedBits (valueAt temperatures) v) ≡ lostOf mask (decidedBits T v)
+  asked-lost = same-lost mask _ _ told
+
+  pub asked-into : (d : List ℕ) → into mask (decidedBits (valueAt temperatures) v) d ≡ into mask (decidedBits T v) d
+  asked-into d = same-into mask _ _ told d
 
 -- ---- infrared numbers first, then temperatures over them
 

@@ -16,7 +16,7 @@ use Rattle.lists.proofs.Written.{written-at}
 use Rattle.floats.specs.Constants.{plusZero}
 use Rattle.floats.proofs.Nan.{by-test}
 use Rattle.root.specs.Root.{root}
-use Rattle.root.specs.Many.{side, isF32, patternAt, isRoot, mayBeRoot, numberAt, Found, Leaves}
+use Rattle.root.specs.Many.{side, isF32, patternAt, isRoot, mayBeRoot, numberAt, Found, Leaves, Guessed}
 use Rattle.root.proofs.Values.{root-positive, zero-bits}
 
 -- a pattern that is not 0 is that of the root
@@ -52,9 +52,8 @@ module _ (x : List Float) (z bits : List ℕ) (e : bits ≡ filled (patternAt x)
       ∙ ap (ofBits binary32) (written-at (λ (j : ℕ). true) (patternAt x) side z k 0 l h)
       ∙ ofBits-toBits binary32 (getD x k nan) (f .at k h)
 
-  module _ {d : List Float} {count : ℕ} (s : Leaves bits d count side) where
-    pub may : Each (mayBeRoot x) nan d side
-    may = record { at = λ k h. ⊎-elim inl (λ g. inr (g ∙ ap root (taken k h))) (s .each .at k h) }
-
-    pub are : count ≡ 0 → Each (isRoot x) nan d side
-    are n = record { at = λ k h. s .all n .at k h ∙ ap root (taken k h) }
+  pub guesses : {d : List Float} {count : ℕ} → Leaves bits d count side → Guessed x d count
+  guesses s = record {
+    each = record { at = λ k h. ⊎-elim inl (λ g. inr (g ∙ ap root (taken k h))) (s .each .at k h) };
+    all = λ n. record { at = λ k h. s .all n .at k h ∙ ap root (taken k h) };
+  }

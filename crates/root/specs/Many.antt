@@ -43,3 +43,8 @@ numberAt bits k = ofBits binary32 (getD bits k 0)
 pub record Leaves (bits : List ℕ) (roots : List Float) (count n : ℕ) : Type 0 where
   pub each : Each (λ (k : ℕ) (y : Float). (y ≡ plusZero) ⊎ (y ≡ root (numberAt bits k))) nan roots n
   pub all : count ≡ 0 → Each (λ (k : ℕ) (y : Float). y ≡ root (numberAt bits k)) nan roots n
+
+-- of the numbers the roots, or 0 where one is left open; none is where the count is 0
+pub record Guessed (x roots : List Float) (count : ℕ) : Type 0 where
+  pub each : Each (mayBeRoot x) nan roots side
+  pub all : count ≡ 0 → Each (isRoot x) nan roots side

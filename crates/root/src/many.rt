@@ -8,7 +8,7 @@ ghost use lib.Ieee.{nan, isNan, binary32, fits, toBits};
 ghost use lib.ListN.{length};
 ghost use Rattle.lists.specs.Written.{filled};
 ghost use Rattle.lists.specs.Each.{Each};
-ghost use Rattle.root.specs.Many.{side, isF32, patternAt, isRoot, mayBeRoot, Found, Leaves};
+ghost use Rattle.root.specs.Many.{side, isF32, patternAt, isRoot, mayBeRoot, Found, Leaves, Guessed};
 ghost use Rattle.root.specs.Whole.{Rounds};
 
 // How many numbers go side by side.
@@ -145,11 +145,27 @@ fn settled(bits: &[u32; SIDE], first: &[u32; SIDE], second: &[u32; SIDE], roots:
     open
 }
 
+// The fourth roots of the numbers, 0 where the guesses leave one open. Answers how many are. Public for the sweep of the guesses.
+pub fn guessed(x: &[f32; SIDE], roots: &mut [f32]) -> u32
+    requires { ⌜ side ≤ length (now roots) ⌝ }
+    ensures { λ r. ⌜ Guessed (now (x .entry)) (now (roots .exit)) r ⌝ }
+    ensures { λ r. ⌜ length (now (roots .exit)) ≡ length (now (roots .entry)) ⌝ }
+{
+    let mut bits = [0u32; SIDE];
+    let mut y = [0.0f32; SIDE];
+    let mut first = [0u32; SIDE];
+    let mut second = [0u32; SIDE];
+    patterns(x, &mut bits);
+    inverses(&bits, &mut y);
+    firsts(&bits, &y, roots, &mut first);
+    seconds(&y, roots, &mut second);
+    settled(&bits, &first, &second, roots)
+}
+
 // The roots that are open, each on its own.
 fn complete(x: &[f32; SIDE], roots: &mut [f32])
     requires { ⌜ (side ≤ length (now roots)) × Each (mayBeRoot (now x)) nan (now roots) side ⌝ }
     ensures { λ r. ⌜ Each (isRoot (now (x .entry))) nan (now (roots .exit)) side ⌝ }
-    ensures { λ r. ⌜ length (now (roots .exit)) ≡ length (now (roots .entry)) ⌝ }
 {
     for i in 0..SIDE {
         if roots[i] != 0.0 {
@@ -163,17 +179,8 @@ fn complete(x: &[f32; SIDE], roots: &mut [f32])
 pub fn fourth_roots(x: &[f32; SIDE], roots: &mut [f32])
     requires { ⌜ side ≤ length (now roots) ⌝ }
     ensures { λ r. ⌜ Each (isRoot (now (x .entry))) nan (now (roots .exit)) side ⌝ }
-    ensures { λ r. ⌜ length (now (roots .exit)) ≡ length (now (roots .entry)) ⌝ }
 {
-    let mut bits = [0u32; SIDE];
-    let mut y = [0.0f32; SIDE];
-    let mut first = [0u32; SIDE];
-    let mut second = [0u32; SIDE];
-    patterns(x, &mut bits);
-    inverses(&bits, &mut y);
-    firsts(&bits, &y, roots, &mut first);
-    seconds(&y, roots, &mut second);
-    if 0 < settled(&bits, &first, &second, roots) {
+    if 0 < guessed(x, roots) {
         complete(x, roots);
     }
 }

@@ -1,5 +1,5 @@
 -- For inner functions only: a pixel's X over what the code lifts out of the pixels. Assumes nothing.
-use Prim.Native.Nat.{ℕ}
+use Prim.Native.Nat.{ℕ, _+_}
 use mathlib.Core.Path.{_≡_}
 use mathlib.Core.List.{List}
 use lib.ListN.{getD}
@@ -11,6 +11,13 @@ use Rattle.formulas.specs.Inner.{liftedSensitivity, liftedFinal}
 use Rattle.pixels.specs.Pixels.{held, temperatureBits, into, lostOf}
 use Rattle.calculations.specs.Frames.{ToCall}
 use Rattle.second.specs.Second.{rangedOf, rangedAt}
+
+-- from its basic temperature t, and pixel base + i's from the i-th that was put by
+unfoldable pub rangedFrom : Calibration → CommonToData → Float → Float → Float → Float
+rangedFrom c common alpha v t = rangedOf c (common .«t_ar») (liftedSensitivity alpha common) v t
+
+abbrev pub rangedFromAt : Calibration → CommonToData → List Float → (ℕ → Float) → ℕ → List Float → ℕ → Float
+rangedFromAt c common alpha v base basic i = rangedFrom c common (getD alpha (base + i) nan) (v (base + i)) (getD basic i nan)
 
 unfoldable pub liftedRanged : Calibration → CommonToData → Float → Float → Float
 liftedRanged c common alpha v =

@@ -1,17 +1,20 @@
 // The second pass: pixels to temperatures, each by the numbers of the range that holds its basic temperature.
 ghost use mathlib.Core.Path.{_≡_};
-ghost use Prim.Native.Nat.{_<_, _≤_};
+ghost use Prim.Native.Nat.{_+_, _<_, _≤_};
 ghost use lib.ListN.{length};
 ghost use lib.Signed.{leZ};
-ghost use lib.Ieee.{le};
-ghost use Rattle.lists.specs.Written.{written};
+ghost use lib.Ieee.{nan, le};
+ghost use Rattle.lists.specs.Each.{Each};
 ghost use Rattle.floats.specs.Floats.{real};
 ghost use Rattle.refusal.specs.Order.{firstOf};
 ghost use Rattle.map.specs.Map.{framePixels};
-ghost use Rattle.pixels.specs.Pixels.{touched, held, temperatureBits, into, lostOf};
+ghost use Rattle.root.specs.Many.{side};
+ghost use Rattle.pixels.specs.Pixels.{held, temperatureBits, into, lostOf};
+ghost use Rattle.pixels.specs.Inner.{warmAt};
+ghost use Rattle.pixels.specs.Blocks.{from, is, Part, Asked};
 ghost use Rattle.calculations.specs.Frames.{irCall, toCall, passCall, ownReading};
 ghost use Rattle.second.specs.Second.{unrisen, cornerTests, rangedTests, rangeOf, rangedOf, RangedPasses};
-ghost use Rattle.second.specs.Inner.{liftedRanged, liftedRangedAt, Ranged};
+ghost use Rattle.second.specs.Inner.{rangedFrom, rangedFromAt, liftedRangedAt, Ranged};
 use calculations::Frame;
 use calibration::Calibration;
 use eeprom::Subpage;
@@ -22,8 +25,10 @@ use formulas::Supply;
 use gates::Lengths;
 use map::PIXELS;
 use offsets::Offset;
+use pixels::BLOCKS;
 use refusal::Refusal;
 use refusal::Verdict;
+use root::many::SIDE;
 
 // How many ranges there are.
 const RANGES: usize = 8;
@@ -119,34 +124,82 @@ fn ranged_value(calibration: Calibration, t_ar: f32, a: f32, v_ir: f32, t: f32) 
 }
 
 // A pixel's X, from its basic temperature.
-fn pixel_value(calibration: Calibration, common: CommonToData, alpha: f32, v_ir: f32) -> f32
-    ensures { λ r. ⌜ r ≡ liftedRanged calibration common alpha «v_ir» ⌝ }
+fn pixel_value(calibration: Calibration, common: CommonToData, alpha: f32, v_ir: f32, t: f32) -> f32
+    ensures { λ r. ⌜ r ≡ rangedFrom calibration common alpha «v_ir» t ⌝ }
 {
     let a = formulas::sensitivity(alpha, common);
-    let t = formulas::temperature(formulas::final_value(v_ir, a, common));
     ranged_value(calibration, common.t_ar, a, v_ir, t)
 }
 
 // ---- The pixels
 
-// The final values of the pixels, from the infrared numbers whose bits are lent.
-fn final_values(
+// The X of the pixels from base on, from the infrared numbers whose bits are lent and their basic temperatures.
+fn ranged_values(
+    calibration: Calibration,
+    common: CommonToData,
+    alpha: &[f32],
+    infrared: &[u32],
+    base: usize,
+    basic: &[f32; SIDE],
+    values: &mut [f32],
+)
+    requires { ⌜ (base + side ≤ length (now alpha)) × (base + side ≤ length (now infrared)) × (side ≤ length (now values)) ⌝ }
+    ensures { λ r. ⌜ Each (is (rangedFromAt calibration common (now (alpha .entry)) (held (now (infrared .entry))) base (now (basic .entry)))) nan (now (values .exit)) side ⌝ }
+{
+    for i in 0..SIDE {
+        let k = base + i;
+        let v_ir = floats::from_bits(infrared[k]);
+        values[i] = pixel_value(calibration, common, alpha[k], v_ir, basic[i]);
+    }
+}
+
+// The temperatures of the pixels from base on.
+fn ranged_block(
+    calibration: Calibration,
+    common: CommonToData,
+    alpha: &[f32],
+    infrared: &[u32],
+    base: usize,
+    temperatures: &mut [f32],
+)
+    requires { ⌜ (base + side ≤ length (now alpha)) × (base + side ≤ length (now infrared)) × (base + side ≤ length (now temperatures)) ⌝ }
+    ensures { λ r. ⌜ Part (from base (warmAt (liftedRangedAt calibration common (now (alpha .entry)) (held (now (infrared .entry)))))) base side (now (temperatures .entry)) (now (temperatures .exit)) ⌝ }
+{
+    let mut finals = [0.0f32; SIDE];
+    let mut basic = [0.0f32; SIDE];
+    let mut values = [0.0f32; SIDE];
+    pixels::final_block(common, alpha, infrared, base, &mut finals);
+    pixels::put_temperatures(&finals, 0, &mut basic);
+    ranged_values(
+        calibration,
+        common,
+        alpha,
+        infrared,
+        base,
+        &basic,
+        &mut values,
+    );
+    pixels::put_temperatures(&values, base, temperatures);
+}
+
+// The temperatures of all pixels that the mask asks for, and of those beside them.
+fn ranged_temperatures(
     calibration: Calibration,
     common: CommonToData,
     mask: &[u8],
     alpha: &[f32],
     infrared: &[u32],
-    values: &mut [f32],
+    temperatures: &mut [f32],
 )
-    requires { ⌜ (framePixels ≤ length (now mask)) × (framePixels ≤ length (now alpha)) × (framePixels ≤ length (now infrared)) × (framePixels ≤ length (now values)) ⌝ }
-    ensures { λ r. ⌜ now (values .exit) ≡ written (touched (now (mask .entry))) (liftedRangedAt calibration common (now (alpha .entry)) (held (now (infrared .entry)))) framePixels (now (values .entry)) ⌝ }
+    requires { ⌜ (framePixels ≤ length (now mask)) × (framePixels ≤ length (now alpha)) × (framePixels ≤ length (now infrared)) × (framePixels ≤ length (now temperatures)) ⌝ }
+    ensures { λ r. ⌜ Asked (now (mask .entry)) (warmAt (liftedRangedAt calibration common (now (alpha .entry)) (held (now (infrared .entry))))) framePixels (now (temperatures .exit)) ⌝ }
 {
-    for p in 0..PIXELS {
-        if !pixels::masked(mask, p) {
+    for block in 0..BLOCKS {
+        let base = block * SIDE;
+        if !pixels::any_masked(mask, base) {
             continue;
         }
-        let v_ir = floats::from_bits(infrared[p]);
-        values[p] = pixel_value(calibration, common, alpha[p], v_ir);
+        ranged_block(calibration, common, alpha, infrared, base, temperatures);
     }
 }
 
@@ -162,9 +215,16 @@ fn ranged_pixels(
     ensures { λ r. ⌜ r ≡ lostOf (now (mask .entry)) (temperatureBits (liftedRangedAt calibration common (now (alpha .entry)) (held (now (destination .entry)))) (held (now (destination .entry)))) ⌝ }
     ensures { λ r. ⌜ now (destination .exit) ≡ into (now (mask .entry)) (temperatureBits (liftedRangedAt calibration common (now (alpha .entry)) (held (now (destination .entry)))) (held (now (destination .entry)))) (now (destination .entry)) ⌝ }
 {
-    let mut values = [0.0f32; PIXELS];
-    final_values(calibration, common, mask, alpha, destination, &mut values);
-    pixels::answer_pixels(mask, &values, destination)
+    let mut temperatures = [0.0f32; PIXELS];
+    ranged_temperatures(
+        calibration,
+        common,
+        mask,
+        alpha,
+        destination,
+        &mut temperatures,
+    );
+    pixels::answer_pixels(mask, &temperatures, destination)
 }
 
 // Turns the infrared numbers of the pixels into temperatures. Answers how many had none.

@@ -8,10 +8,10 @@ use native.Mathlib.Omega.{arith}
 use lib.ListN.{getD}
 use lib.Ieee.{binary32, ofBits}
 use Rattle.lists.proofs.Written.{written-past}
-use Rattle.formulas.specs.Pixel.{answerOf}
+use Rattle.formulas.specs.Pixel.{decided}
 use Rattle.map.specs.Map.{framePixels}
-use Rattle.pixels.specs.Pixels.{touched, held, answerBits, temperatureBits}
-use Rattle.pixels.specs.Inner.{valueAt, isLost}
+use Rattle.pixels.specs.Pixels.{touched, held, answerBits}
+use Rattle.pixels.specs.Inner.{valueAt, decidedBits, isLost}
 use Rattle.pixels.proofs.Lost.{answer-lost}
 use Rattle.pixels.proofs.Steps as steps
 use Rattle.pixels.proofs.Steps.{Running, patterned, kept, missed, told}
@@ -19,12 +19,12 @@ use Rattle.pixels.proofs.answer_pixels.Statement.{statement}
 use Rattle.pixels.proofs.answer_pixels.Tie as tie
 
 abbrev Inv-loop : tie.InvT-loop
-Inv-loop mask values destination₀ lost₀ i₀ destination lost i =
-    let bits = temperatureBits (valueAt values) (held destination₀) in
+Inv-loop mask temperatures destination₀ lost₀ i₀ destination lost i =
+    let bits = decidedBits (valueAt temperatures) (held destination₀) in
     Running (touched mask) bits (patterned bits) framePixels destination₀ destination lost i
 
 abbrev μ-loop : tie.MeasureT-loop
-μ-loop mask values destination₀ lost₀ i₀ destination lost i = framePixels - i
+μ-loop mask temperatures destination₀ lost₀ i₀ destination lost i = framePixels - i
 
 loop-holds : tie.Need-loop-holds Inv-loop μ-loop
 loop-holds c = steps.start _ _ _ _ _
@@ -39,12 +39,12 @@ asked c = sym (c .before .masked .ensures) ∙ not-false _ (c .if1 .left)
 answered : (c : tie.After-pixel-answer Inv-loop μ-loop) →
     let a = c .before .before .before .before .before .before .before .before .before .before .before .args in
     let k = c .before .before .before .before .before .before .before .loop .k in
-    answerOf (valueAt (a .values .now) k) (held (a .destination .now) k) ≡ c .pixel-answer .result
+    decided (valueAt (a .temperatures .now) k) (held (a .destination .now) k) ≡ c .pixel-answer .result
 answered c =
     let a = c .before .before .before .before .before .before .before .before .before .before .before .args in
     let l = c .before .before .before .before .before .before .before .loop in
     sym (c .pixel-answer .ensures
-    ∙ ap (answerOf (valueAt (a .values .now) (l .k)))
+    ∙ ap (decided (valueAt (a .temperatures .now) (l .k)))
     (c .before .before .from-bits .ensures ∙ ap (ofBits binary32) (ap (λ d. getD d (l .k) 0) (l .inv .list) ∙ written-past _ _ (l .k) (a .destination .now) (l .k) 0 (omega arith))))
 
 loop-again-2 : tie.Need-loop-again-2 Inv-loop μ-loop
@@ -52,14 +52,14 @@ loop-again-2 c =
     let p = c .before .before in
     let e = answered p ∙ c .enum-told .given .1 in
     let l = p .before .before .before .before .before in
-    missed _ _ _ (l .before .before .loop .inv) (omega arith) (asked (p .before .before .before .before)) (answer-lost _ _ ∙ ap isLost e) (sym (ap answerBits e))
+    missed _ _ _ (l .before .before .loop .inv) (omega arith) (asked (p .before .before .before .before)) (answer-lost _ _ (p .before .shared-slice-known3 .given (l .before .before .loop .k)) ∙ ap isLost e) (sym (ap answerBits e))
 
 loop-again-3 : tie.Need-loop-again-3 Inv-loop μ-loop
 loop-again-3 c =
     let p = c .before .before .before .before in
     let e = answered p ∙ c .before .before .answer .given .1 in
     let l = p .before .before .before .before .before in
-    told _ _ _ (l .before .before .loop .inv) (omega arith) (asked (p .before .before .before .before)) (answer-lost _ _ ∙ ap isLost e) (c .to-bits .ensures ∙ sym (ap answerBits e))
+    told _ _ _ (l .before .before .loop .inv) (omega arith) (asked (p .before .before .before .before)) (answer-lost _ _ (p .before .shared-slice-known3 .given (l .before .before .loop .k)) ∙ ap isLost e) (c .to-bits .ensures ∙ sym (ap answerBits e))
 
 returns : tie.Need-returns Inv-loop μ-loop
 returns c =

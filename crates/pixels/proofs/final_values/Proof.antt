@@ -1,51 +1,45 @@
--- `pixels::final_values` meets its contract: each pixel that the mask asks for has its final value put by. Assumes nothing.
+-- `pixels::final_values` meets its contract: entry by entry. Assumes nothing.
 use borrow.Author.Needs.{needs}
-use borrow.Author.Tests.{not-true, not-false}
-use mathlib.Core.Path.{_≡_, refl, sym, ap₂, _∙_}
-use mathlib.Core.Bool.{false}
-use Prim.Native.Nat.{ℕ, _-_}
+use Prim.Native.Nat.{_-_, _≤_}
 use native.Mathlib.Omega.{arith}
-use lib.Ieee.{Float}
-use Rattle.formulas.specs.Inner.{liftedFinal}
-use Rattle.map.specs.Map.{framePixels}
-use Rattle.pixels.specs.Pixels.{touched, held}
-use Rattle.pixels.specs.Inner.{liftedAt}
-use Rattle.pixels.proofs.Steps as steps
-use Rattle.pixels.proofs.Steps.{Running, kept, told}
+use mathlib.Core.Path.{_≡_, refl, ap₂, _∙_}
+use lib.ListN.{getD, length, length-set}
+use lib.Ieee.{Float, nan}
+use Rattle.lists.specs.Each.{Each}
+use Rattle.lists.proofs.Each.{none, one-more}
+use Rattle.root.specs.Many.{side}
+use Rattle.formulas.specs.Inner.{liftedFrom}
+use Rattle.pixels.specs.Pixels.{held}
+use Rattle.pixels.specs.Inner.{rootedAt}
+use Rattle.pixels.specs.Blocks.{is}
 use Rattle.pixels.proofs.final_values.Statement.{statement}
 use Rattle.pixels.proofs.final_values.Tie as tie
 
 abbrev Inv-loop : tie.InvT-loop
-Inv-loop common mask alpha infrared values₀ p₀ values p =
-    Running (touched mask) (liftedAt common alpha (held infrared)) (λ (k : ℕ). false) framePixels values₀ values 0 p
+Inv-loop common alpha infrared base roots values₀ i₀ values i = (i ≤ side) × (length values ≡ length values₀)
+    × Each (is (rootedAt common alpha (held infrared) base roots)) nan values i
 
 abbrev μ-loop : tie.MeasureT-loop
-μ-loop common mask alpha infrared values₀ p₀ values p = framePixels - p
+μ-loop common alpha infrared base roots values₀ i₀ values i = side - i
 
 loop-holds : tie.Need-loop-holds Inv-loop μ-loop
-loop-holds c = steps.start _ _ _ _ _
-
-loop-again : tie.Need-loop-again Inv-loop μ-loop
-loop-again c = kept _ _ _ (c .before .before .before .loop .inv) (c .before .before .loop-test .taken) (sym (c .before .masked .ensures) ∙ not-true _ (c .if1 .taken))
+loop-holds c = (omega arith, refl, none _)
 
 value : (c : tie.After-final-value Inv-loop μ-loop) →
-    let a = c .before .before .before .before .before .before .before .before .before .before .before .before .before .args in
-    c .final-value .result ≡ liftedAt (a .common) (a .alpha .now) (held (a .infrared .now)) (c .before .before .before .before .before .before .before .before .loop .p)
-unfolding liftedAt
+    let a = c .before .before .before .before .before .before .before .before .before .before .before .args in
+    c .final-value .result ≡ rootedAt (a .common) (a .alpha .now) (held (a .infrared .now)) (a .base) (a .roots .now) (c .before .before .before .before .before .before .before .loop .i)
+unfolding rootedAt
 value c =
-    let a = c .before .before .before .before .before .before .before .before .before .before .before .before .before .args in
-    c .final-value .ensures ∙ ap₂ (λ (v s : Float). liftedFinal v s (a .common)) (c .before .before .before .from-bits .ensures) (c .before .sensitivity .ensures)
+    let a = c .before .before .before .before .before .before .before .before .before .before .before .args in
+    c .final-value .ensures ∙ ap₂ (λ (v s : Float). liftedFrom v s (getD (a .roots .now) (c .before .before .before .before .before .before .before .loop .i) nan) (a .common)) (c .before .before .before .before .from-bits .ensures) (c .before .before .sensitivity .ensures)
 
-loop-again-2 : tie.Need-loop-again-2 Inv-loop μ-loop
-loop-again-2 c =
-    told _ _ _ (c .before .before .before .before .before .before .before .before .loop .inv) (c .before .before .before .before .before .before .before .loop-test .taken)
-    (sym (c .before .before .before .before .before .before .masked .ensures) ∙ not-false _ (c .before .before .before .before .before .if1 .left)) refl (value c)
+loop-again : tie.Need-loop-again Inv-loop μ-loop
+loop-again c =
+    let l = c .before .before .before .before .before .before .before .loop in
+    (omega arith, simp length-set (l .inv .1), one-more (l .inv .2) (omega arith) (value c))
 
 returns : tie.Need-returns Inv-loop μ-loop
-returns c =
-    let r = c .before .loop .inv in
-    let e : c .before .loop .p ≡ framePixels = let w = r .within in omega arith in
-    rw e at (r .list)
+returns c = let e : c .before .loop .i ≡ side = omega arith in rw e at (c .before .loop .inv .2)
 
 pub final-values-spec : {M : Type 1} → statement M
 final-values-spec =
@@ -54,21 +48,20 @@ final-values-spec =
     Inv-loop
     μ-loop
     loop-holds
+    (λ c. search needs)
+    (λ c. search needs)
+    (λ c. search needs)
     (λ c κs. search needs)
+    (λ c. search needs)
+    (λ c. search needs)
+    (λ c κs. search needs)
+    (λ c. search needs)
+    (λ c. search needs)
+    (λ c κs. search needs)
+    (λ c. search needs)
+    (λ c. search needs)
     (λ c. search needs)
     (λ c. search needs)
     loop-again
-    (λ c. search needs)
-    (λ c. search needs)
-    (λ c κs. search needs)
-    (λ c. search needs)
-    (λ c. search needs)
-    (λ c κs. search needs)
-    (λ c κs. search needs)
-    (λ c. search needs)
-    (λ c. search needs)
-    (λ c. search needs)
-    (λ c. search needs)
-    loop-again-2
     (λ c. search needs)
     returns)

@@ -43,7 +43,7 @@ loop-again-2 c =
     )
 
 returns : tie.Need-returns Inv-loop μ-loop
-returns c = let e : c .before .loop .i ≡ side = omega arith in (rw e at (c .before .loop .inv .2), c .before .loop .inv .1)
+returns c = let e : c .before .loop .i ≡ side = omega arith in rw e at (c .before .loop .inv .2)
 
 pub complete-spec : {M : Type 1} → statement M
 complete-spec =
