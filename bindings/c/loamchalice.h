@@ -28,9 +28,10 @@
  * the bits of floats, uint32_t, since a float's bits can be lost on the way where it is not a number: loamchalice_float makes a number of them. Every
  * not-a-number that a call writes is 0x7FC00000.
  *
- * An emissivity of 0 or not-a-number is refusal 8. Any other is taken as it is: 95 for 0.95, -1 or infinity give cold, good-looking answers. Ask for
- * 0 < emissivity <= 1 before you call; loaded.calibration.emissivity is the card's own. resolution_correction is 2 to the power of the record's
- * resolution less the camera's current one, both 0 to 3: 1 where they are the same. */
+ * An emissivity of 0 or not-a-number is refusal 8. Any other is taken as it is: 95 for 0.95, -1 or infinity give cold, good-looking answers:
+ * loamchalice_warning tells.
+ *
+ * The last part of this file has the same calls with their tables and settings in structs, loamchalice_camera and loamchalice_settings: begin there. */
 #ifndef LOAMCHALICE_H
 #define LOAMCHALICE_H
 
@@ -301,6 +302,150 @@ static inline float loamchalice_float(uint32_t bits) {
     memcpy(&x, &bits, sizeof x);
     return x;
 }
+
+/* A card's record and tables, for the calls below. */
+typedef struct {
+    loamchalice_record record;
+    int32_t offsets0[LOAMCHALICE_PIXELS], offsets1[LOAMCHALICE_PIXELS];
+    float alpha[LOAMCHALICE_PIXELS], k_v[LOAMCHALICE_PIXELS], k_ta[LOAMCHALICE_PIXELS];
+} loamchalice_camera;
+
+/* The caller's numbers. loamchalice_settings_of makes them from a card. */
+typedef struct {
+    float emissivity;            /* of the body that is looked at, above 0 and at most 1 */
+    float resolution_correction; /* see loamchalice_resolution_correction */
+    float v_dd_0;                /* the nominal supply */
+    size_t basic_range;          /* 0 to 7; that which the card was loaded with */
+    float self_heating;          /* what the ambient temperature loses to stand for the reflected one, where that is not given */
+    uint8_t reflected_given;     /* 0: it is not */
+    float reflected;             /* the reflected temperature, if it is given */
+} loamchalice_settings;
+
+/* What the calls below hand on, each group once; gone at the end of this file. */
+#define LOAMCHALICE_LENT(table) (table), LOAMCHALICE_PIXELS
+#define LOAMCHALICE_OFFSETS LOAMCHALICE_LENT(camera->offsets0), LOAMCHALICE_LENT(camera->offsets1)
+#define LOAMCHALICE_K LOAMCHALICE_LENT(camera->k_v), LOAMCHALICE_LENT(camera->k_ta)
+#define LOAMCHALICE_LIGHT camera->record, settings->emissivity, settings->resolution_correction, settings->v_dd_0, ram
+#define LOAMCHALICE_HEAT settings->basic_range, settings->reflected_given, loamchalice_around(settings)
+#define LOAMCHALICE_FRAME pixels, pixels_length, LOAMCHALICE_LENT(mask), LOAMCHALICE_LENT(destination)
+
+/* loamchalice_load with the camera's basic range. A refused card leaves the camera as it was. Refusals 1, 3, 4. */
+static inline loamchalice_loaded loamchalice_camera_load(loamchalice_camera *camera, const uint8_t *image, size_t image_length) {
+    loamchalice_loaded loaded =
+        loamchalice_load(image, image_length, LOAMCHALICE_BASIC_RANGE, LOAMCHALICE_OFFSETS, LOAMCHALICE_LENT(camera->alpha), LOAMCHALICE_K);
+    if (loaded.number == 0) {
+        camera->record = loaded.calibration;
+    }
+    return loaded;
+}
+
+/* 2 to the power of the card's resolution less the camera's current one, each 0 to 3: 1 where they are the same. */
+static inline float loamchalice_resolution_correction(uint8_t calibrated, uint8_t current) {
+    float correction = 1.0f;
+    for (; calibrated < current; current--) {
+        correction *= 0.5f;
+    }
+    for (; current < calibrated; current++) {
+        correction *= 2.0f;
+    }
+    return correction;
+}
+
+/* Settings for a card: its own emissivity, and the correction for the camera's current resolution, 0 to 3, which stands in bits 10 and 11 of its control
+ * register (2 after power-on). The rest are the camera's numbers, and no reflected temperature is given. */
+static inline loamchalice_settings loamchalice_settings_of(const loamchalice_record *record, uint8_t current_resolution) {
+    loamchalice_settings settings;
+    settings.emissivity = record->emissivity;
+    settings.resolution_correction = loamchalice_resolution_correction(record->resolution, current_resolution);
+    settings.v_dd_0 = 3.3f;
+    settings.basic_range = LOAMCHALICE_BASIC_RANGE;
+    settings.self_heating = 5.0f;
+    settings.reflected_given = 0;
+    settings.reflected = 0.0f;
+    return settings;
+}
+
+/* Neither an infinity nor not a number. */
+static inline int loamchalice_finite(float x) {
+    uint32_t bits;
+    memcpy(&bits, &x, sizeof bits);
+    return (bits & 0x7F800000u) != 0x7F800000u;
+}
+
+/* The reflected temperature, or the self-heating where none is given: what the calls have as `reflected`. */
+static inline float loamchalice_around(const loamchalice_settings *settings) {
+    return settings->reflected_given != 0 ? settings->reflected : settings->self_heating;
+}
+
+/* What looks wrong in these numbers, though no call refuses it; NULL if nothing does. A lamp box should not run with a warning. */
+static inline const char *loamchalice_warning(const loamchalice_settings *settings) {
+    if (!(settings->emissivity > 0.0f && settings->emissivity <= 1.0f)) {
+        return "the emissivity is not above 0 and at most 1";
+    }
+    if (!(settings->resolution_correction > 0.0f && loamchalice_finite(settings->resolution_correction))) {
+        return "the resolution correction is no positive number";
+    }
+    if (!(loamchalice_finite(settings->v_dd_0) && loamchalice_finite(settings->self_heating) && loamchalice_finite(loamchalice_around(settings)))) {
+        return "the nominal supply, the self-heating or the reflected temperature is no number";
+    }
+    return NULL;
+}
+
+/* The frame calls with a camera and settings. Mask and destination have 192 entries. Hand in the count of pixel bytes that came: fewer than 384 are
+ * refusal 10. */
+static inline loamchalice_answer loamchalice_camera_raw_pixels_to_ir_data(
+    const loamchalice_camera *camera, const loamchalice_settings *settings, loamchalice_ram ram, uint8_t subpage,
+    const uint8_t *pixels, size_t pixels_length, const uint8_t mask[LOAMCHALICE_PIXELS], uint32_t destination[LOAMCHALICE_PIXELS]) {
+    return loamchalice_raw_pixels_to_ir_data(
+        LOAMCHALICE_LIGHT, subpage, LOAMCHALICE_OFFSETS, LOAMCHALICE_K, LOAMCHALICE_FRAME);
+}
+
+static inline loamchalice_answer loamchalice_camera_raw_ir_to_temperatures(
+    const loamchalice_camera *camera, const loamchalice_settings *settings, float t_a,
+    const uint8_t mask[LOAMCHALICE_PIXELS], uint32_t destination[LOAMCHALICE_PIXELS]) {
+    return loamchalice_raw_ir_to_temperatures(
+        camera->record, settings->emissivity, t_a, LOAMCHALICE_HEAT,
+        LOAMCHALICE_LENT(camera->alpha), LOAMCHALICE_LENT(mask), LOAMCHALICE_LENT(destination));
+}
+
+static inline loamchalice_answer loamchalice_camera_raw_pixels_to_temperatures(
+    const loamchalice_camera *camera, const loamchalice_settings *settings, loamchalice_ram ram, uint8_t subpage,
+    const uint8_t *pixels, size_t pixels_length, const uint8_t mask[LOAMCHALICE_PIXELS], uint32_t destination[LOAMCHALICE_PIXELS]) {
+    return loamchalice_raw_pixels_to_temperatures(
+        LOAMCHALICE_LIGHT, subpage, LOAMCHALICE_HEAT,
+        LOAMCHALICE_OFFSETS, LOAMCHALICE_LENT(camera->alpha), LOAMCHALICE_K, LOAMCHALICE_FRAME);
+}
+
+static inline loamchalice_answer loamchalice_camera_raw_pixels_to_ranged_temperatures(
+    const loamchalice_camera *camera, const loamchalice_settings *settings, loamchalice_ram ram, uint8_t subpage,
+    const uint8_t *pixels, size_t pixels_length, const uint8_t mask[LOAMCHALICE_PIXELS], uint32_t destination[LOAMCHALICE_PIXELS]) {
+    return loamchalice_raw_pixels_to_ranged_temperatures(
+        LOAMCHALICE_LIGHT, subpage, LOAMCHALICE_HEAT,
+        LOAMCHALICE_OFFSETS, LOAMCHALICE_LENT(camera->alpha), LOAMCHALICE_K, LOAMCHALICE_FRAME);
+}
+
+/* With what loamchalice_filter_average answers. */
+static inline loamchalice_answer loamchalice_camera_filtered_pixels_to_ir_data(
+    const loamchalice_camera *camera, const loamchalice_settings *settings, loamchalice_ram ram, loamchalice_average average, uint8_t subpage,
+    const uint8_t *pixels, size_t pixels_length, const uint8_t mask[LOAMCHALICE_PIXELS], uint32_t destination[LOAMCHALICE_PIXELS]) {
+    return loamchalice_filtered_pixels_to_ir_data(
+        LOAMCHALICE_LIGHT, average.ready, average.average, subpage, LOAMCHALICE_OFFSETS, LOAMCHALICE_K, LOAMCHALICE_FRAME);
+}
+
+static inline loamchalice_answer loamchalice_camera_filtered_pixels_to_temperatures(
+    const loamchalice_camera *camera, const loamchalice_settings *settings, loamchalice_ram ram, loamchalice_average average, uint8_t subpage,
+    const uint8_t *pixels, size_t pixels_length, const uint8_t mask[LOAMCHALICE_PIXELS], uint32_t destination[LOAMCHALICE_PIXELS]) {
+    return loamchalice_filtered_pixels_to_temperatures(
+        LOAMCHALICE_LIGHT, average.ready, average.average, subpage, LOAMCHALICE_HEAT,
+        LOAMCHALICE_OFFSETS, LOAMCHALICE_LENT(camera->alpha), LOAMCHALICE_K, LOAMCHALICE_FRAME);
+}
+
+#undef LOAMCHALICE_LENT
+#undef LOAMCHALICE_OFFSETS
+#undef LOAMCHALICE_K
+#undef LOAMCHALICE_LIGHT
+#undef LOAMCHALICE_HEAT
+#undef LOAMCHALICE_FRAME
 
 /* What the archive hands over, on a processor of 64 bits. */
 #if defined(__cplusplus)
