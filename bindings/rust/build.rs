@@ -7,6 +7,7 @@ fn main() {
     let out = PathBuf::from(std::env::var("OUT_DIR").unwrap());
     let (target, host) = (std::env::var("TARGET").unwrap(), std::env::var("HOST").unwrap());
     assert!(target == host, "tools/archive makes the archive for {host} alone, not for {target}");
+    assert!(repository.join("tools/archive").exists(), "this crate is built where it stands in Loamchalice's repository, since it compiles the sources there");
     let made = Command::new(repository.join("tools/archive")).arg(out.join("libloamchalice.a")).status();
     assert!(made.is_ok_and(|status| status.success()), "tools/archive failed: is the Rattle kit's rt on the PATH?");
     println!("cargo:rustc-link-search=native={}", out.display());
