@@ -1,36 +1,33 @@
 // Reads an image from standard input and writes what loading it answers, then how many lines that was.
 // Only the first 1,664 bytes of an image are loaded, and a length is told only where it is below that. So input of any length is
 // served by a buffer of 4,096 bytes that is read until it is full or the input ends; what follows is not read.
+// On standard error a refusal is told as `refused` with number, place and value. Where reading or writing fails it has `failed`; of input that
+// failed nothing goes to standard output.
+use console::put;
+use console::tab_number;
 use eeprom::Loaded;
 use libc::STDIN_FILENO;
-use libc::STDOUT_FILENO;
+use map::IMAGE_BYTES;
 use offsets::Offset;
 
 // The camera's basic temperature range, by the crate.
 const BASIC_RANGE: usize = 2;
 
-fn tab_number(n: u64) {
-    io::write_all(STDOUT_FILENO, b"\t");
-    io::print_decimal(STDOUT_FILENO, n);
-}
-
-// The refusal's number, place and value, and how many words were mended.
-fn load_line(loaded: Loaded) {
-    io::write_all(STDOUT_FILENO, b"load");
+// The refusal's number, place and value, and how many words were mended; false where writing failed.
+fn load_line(loaded: Loaded) -> bool {
     let verdict = loaded.verdict;
     let mending = loaded.mending;
     let told = verdict.told();
-    tab_number(told.number);
-    tab_number(told.place);
-    tab_number(told.value);
-    tab_number(mending.count as u64);
-    io::write_all(STDOUT_FILENO, b"\n");
+    put(b"load")
+        && tab_number(told.number)
+        && tab_number(told.place)
+        && tab_number(told.value)
+        && tab_number(mending.count as u64)
+        && put(b"\n")
 }
 
-fn end_line(lines: u64) {
-    io::write_all(STDOUT_FILENO, b"end");
-    tab_number(lines);
-    io::write_all(STDOUT_FILENO, b"\n");
+fn end_line(lines: u64) -> bool {
+    put(b"end") && tab_number(lines) && put(b"\n")
 }
 
 fn run(image: &[u8]) -> Loaded {
@@ -50,10 +47,18 @@ fn run(image: &[u8]) -> Loaded {
     )
 }
 
+// The lines of an image.
+fn serve(image: &[u8]) {
+    let loaded = run(image);
+    console::went(load_line(loaded) && end_line(1), loaded.verdict);
+}
+
 fn main() {
     let mut buffer = io::buffer();
     let n = io::read_full(STDIN_FILENO, &mut buffer);
-    let loaded = run(&buffer[..n]);
-    load_line(loaded);
-    end_line(1);
+    if console::whole(n, IMAGE_BYTES) {
+        serve(&buffer[..n]);
+    } else {
+        console::failed();
+    }
 }

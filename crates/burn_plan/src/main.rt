@@ -1,72 +1,102 @@
 // Reads a present card and right after it a wanted one from standard input, and writes the steps from the one to the other, a line for each; then
-// how many there were. A card is 1,664 bytes; what follows the second is not read.
+// how many there were. A card is 1,664 bytes; what follows the second is not read. A refusal has a line in place of a step, and on standard error
+// `refused` with number, place and value. Where reading or writing fails standard error has `failed`; of input that failed nothing goes to standard output.
 use burn::Next;
 use burn::Step;
+use console::put;
+use console::tab_number;
 use libc::STDIN_FILENO;
-use libc::STDOUT_FILENO;
 use map::IMAGE_BYTES;
 use refusal::Refusal;
+use refusal::Verdict;
 ghost use Prim.Native.Nat.{_≤_};
 
 // As many steps has a plan at most: two for each of 814 words.
 const STEPS: u64 = 1628;
 
-fn tab_number(n: u64) {
-    io::write_all(STDOUT_FILENO, b"\t");
-    io::print_decimal(STDOUT_FILENO, n);
-}
-
-// The word, and what it becomes.
-fn step_line(step: Step) {
-    io::write_all(STDOUT_FILENO, b"step");
-    tab_number(step.word as u64);
-    tab_number(step.value as u64);
-    io::write_all(STDOUT_FILENO, b"\n");
+// The word, and what it becomes; false where writing failed.
+fn step_line(step: Step) -> bool {
+    put(b"step") && tab_number(step.word as u64) && tab_number(step.value as u64) && put(b"\n")
 }
 
 // The refusal's number, place and value.
-fn refused_line(refusal: Refusal) {
-    io::write_all(STDOUT_FILENO, b"refused");
+fn refused_line(refusal: Refusal) -> bool {
     let told = refusal.told();
-    tab_number(told.number);
-    tab_number(told.place);
-    tab_number(told.value);
-    io::write_all(STDOUT_FILENO, b"\n");
+    put(b"refused")
+        && tab_number(told.number)
+        && tab_number(told.place)
+        && tab_number(told.value)
+        && put(b"\n")
 }
 
-fn end_line(steps: u64) {
-    io::write_all(STDOUT_FILENO, b"end");
-    tab_number(steps);
-    io::write_all(STDOUT_FILENO, b"\n");
+fn end_line(steps: u64) -> bool {
+    put(b"end") && tab_number(steps) && put(b"\n")
 }
 
-// Burns until the wanted card is reached or the burn is refused, and writes what each call did. Answers how many steps it wrote.
-fn burn_all(present: &mut [u8], wanted: &[u8]) -> u64 {
+// How many steps were written, what stopped them, and whether writing went well.
+struct Plan {
+    steps: u64,
+    verdict: Verdict,
+    written: bool,
+}
+
+fn stopped(refusal: Refusal, steps: u64) -> Plan {
+    Plan {
+        steps,
+        verdict: Verdict::Refused(refusal),
+        written: refused_line(refusal),
+    }
+}
+
+fn planned(steps: u64, written: bool) -> Plan {
+    Plan {
+        steps,
+        verdict: Verdict::Pass,
+        written,
+    }
+}
+
+// Burns until the wanted card is reached, the burn is refused or writing fails, and writes what each call did.
+fn burn_all(present: &mut [u8], wanted: &[u8]) -> Plan {
     let mut steps = 0;
     while steps < STEPS {
         let burnt = burn::burn(present, wanted);
         let next = burnt.step;
         match next {
-            Next::Stopped(refusal) => {
-                refused_line(refusal);
-                return steps;
+            Next::Stopped(refusal) => return stopped(refusal, steps),
+            Next::Reached => return planned(steps, true),
+            Next::Due(step) => {
+                if !step_line(step) {
+                    return planned(steps, false);
+                }
             },
-            Next::Reached => return steps,
-            Next::Due(step) => step_line(step),
         }
         steps += 1;
         if burnt.reached {
-            return steps;
+            return planned(steps, true);
         }
     }
-    steps
+    planned(steps, true)
+}
+
+// The lines of the steps from one card to the other.
+fn plan_lines(present: &mut [u8], wanted: &[u8]) {
+    let plan = burn_all(present, wanted);
+    console::went(plan.written && end_line(plan.steps), plan.verdict);
 }
 
 fn main() {
     let mut present = [0u8; IMAGE_BYTES];
     let mut wanted = [0u8; IMAGE_BYTES];
     let here = io::read_full(STDIN_FILENO, &mut present);
+    if !console::whole(here, IMAGE_BYTES) {
+        console::failed();
+        return;
+    }
     let there = io::read_full(STDIN_FILENO, &mut wanted);
-    let steps = burn_all(&mut present[..here], &wanted[..there]);
-    end_line(steps);
+    if console::whole(there, IMAGE_BYTES) {
+        plan_lines(&mut present[..here], &wanted[..there]);
+    } else {
+        console::failed();
+    }
 }

@@ -2,26 +2,16 @@
 // word that was mended and then for each that is damaged and stays, and a last line that says how it went: `clean`, `mended` and how many,
 // `damaged` and how many were damaged and mended, `refused` with number, place and value, or `failed` where reading or writing failed or the
 // input has more than 65,536 bytes. Of a card that is refused, and of input that failed, nothing goes to standard output.
-use libc::STDERR_FILENO;
+use console::say;
+use console::say_number;
 use libc::STDIN_FILENO;
-use libc::STDOUT_FILENO;
 use listing::CHECKED_WORDS;
-use refusal::Told;
 use refusal::Verdict;
 use scrub::Counts;
 
-fn say(text: &[u8]) {
-    io::write_all(STDERR_FILENO, text);
-}
-
-fn number(n: u64) {
-    say(b" ");
-    io::print_decimal(STDERR_FILENO, n);
-}
-
 fn word_line(word: u16, what: &[u8]) {
     say(b"word");
-    number(word as u64);
+    say_number(word as u64);
     say(what);
 }
 
@@ -34,33 +24,19 @@ fn word_lines(list: &[u16], count: usize, what: &[u8]) {
     }
 }
 
-fn refused_line(told: Told) {
-    say(b"refused");
-    number(told.number);
-    number(told.place);
-    number(told.value);
-    say(b"\n");
-}
-
 fn last_line(counts: Counts) {
     if 0 < counts.damaged {
         say(b"damaged");
-        number(counts.damaged as u64);
+        say_number(counts.damaged as u64);
         say(b", mended");
-        number(counts.changed as u64);
+        say_number(counts.changed as u64);
     } else if 0 < counts.changed {
         say(b"mended");
-        number(counts.changed as u64);
+        say_number(counts.changed as u64);
     } else {
         say(b"clean");
     }
     say(b"\n");
-}
-
-// Whether the input has ended, and did not fail.
-fn ended() -> bool {
-    let mut more = [0u8; 1];
-    libc::read(STDIN_FILENO, &mut more) == 0
 }
 
 fn scrub_card(card: &mut [u8]) {
@@ -70,24 +46,24 @@ fn scrub_card(card: &mut [u8]) {
     let verdict = scrubbed.verdict;
     let counts = scrubbed.counts;
     let Verdict::Pass = verdict else {
-        refused_line(verdict.told());
+        console::refused(verdict.told());
         return;
     };
-    if io::write_all(STDOUT_FILENO, card) {
+    if console::put(card) {
         word_lines(&changed, counts.changed, b" mended\n");
         word_lines(&damaged, counts.damaged, b" damaged\n");
         last_line(counts);
     } else {
-        say(b"failed\n");
+        console::failed();
     }
 }
 
 fn main() {
     let mut buffer = io::large_buffer();
     let n = io::read_full(STDIN_FILENO, &mut buffer);
-    if ended() {
+    if console::ended() {
         scrub_card(&mut buffer[..n]);
     } else {
-        say(b"failed\n");
+        console::failed();
     }
 }

@@ -1,37 +1,21 @@
 // Writes a card from text: 832 lines, that of word 0 first. A line begins with a number, decimal or 0x and hexadecimal: of a checked word
-// its data, of any other the word. The image goes to standard output. A line that is no word, or one more than 832, is told as `line`
-// and its number from 1 on; any other refusal as `write` with number, place and value. Both go to standard error, and no byte to standard
-// output. The text has fewer than 65,536 bytes; a longer one is told by the line at which that many end.
+// its data, of any other the word. The image goes to standard output. A line that is no word, or one more than 832, is told as `refused line`
+// and its number from 1 on; any other refusal as `refused` with number, place and value; `failed` is told where reading or writing fails. All of
+// that goes to standard error, and no byte to standard output. The text has fewer than 65,536 bytes; a longer one is told by the line at which that many end.
 mod text;
 
 ghost use Prim.Native.Nat.{_≤_};
-use libc::STDERR_FILENO;
 use libc::STDIN_FILENO;
-use libc::STDOUT_FILENO;
 use listing::CHECKED_WORDS;
 use listing::UNCHECKED_WORDS;
 use map::IMAGE_BYTES;
 use map::WORDS;
-use refusal::Told;
 use refusal::Verdict;
 
-fn tab_number(n: u64) {
-    io::write_all(STDERR_FILENO, b"\t");
-    io::print_decimal(STDERR_FILENO, n);
-}
-
-fn line_line(line: u64) {
-    io::write_all(STDERR_FILENO, b"line");
-    tab_number(line);
-    io::write_all(STDERR_FILENO, b"\n");
-}
-
-fn write_line(told: Told) {
-    io::write_all(STDERR_FILENO, b"write");
-    tab_number(told.number);
-    tab_number(told.place);
-    tab_number(told.value);
-    io::write_all(STDERR_FILENO, b"\n");
+fn refused_line(line: u64) {
+    console::say(b"refused line");
+    console::say_number(line);
+    console::say(b"\n");
 }
 
 // How far the lists are filled.
@@ -119,10 +103,10 @@ fn write_lists(data: &[u16], others: &[u16]) {
     let mut image = [0u8; IMAGE_BYTES];
     let verdict = writer::write(data, others, &mut image);
     let Verdict::Pass = verdict else {
-        write_line(verdict.told());
+        console::refused(verdict.told());
         return;
     };
-    io::write_all(STDOUT_FILENO, &image);
+    console::went(console::put(&image), verdict);
 }
 
 // The card of a text, which may have been cut.
@@ -133,9 +117,9 @@ fn write_text(text: &[u8], cut: bool) {
     let count = lines.count;
     let filled = lines.filled;
     if !lines.good {
-        line_line(count as u64 + 1);
+        refused_line(count as u64 + 1);
     } else if cut {
-        line_line(count as u64);
+        refused_line(count as u64);
     } else {
         write_lists(firsts(&data, filled.data), firsts(&others, filled.others));
     }
@@ -144,5 +128,10 @@ fn write_text(text: &[u8], cut: bool) {
 fn main() {
     let mut buffer = io::large_buffer();
     let n = io::read_full(STDIN_FILENO, &mut buffer);
-    write_text(&buffer[..n], n == buffer.len());
+    let room = buffer.len();
+    if console::whole(n, room) {
+        write_text(&buffer[..n], n == room);
+    } else {
+        console::failed();
+    }
 }
