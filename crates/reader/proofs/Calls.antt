@@ -1,28 +1,23 @@
--- After any calls the state is what the bytes taken say, whatever the cuts; a whole card ends as a load of it does, verdict, record and tables; the end
--- is heard in time; and until a card is done no table changes. Assumes nothing.
+-- After any calls the state is what the bytes taken say, whatever the cuts. Assumes nothing.
 use Prim.Native.Nat.{ℕ, _+_, _*_, _<_, _≤_, min}
 use mathlib.Core.Path.{_≡_, refl, sym, ap, _∙_}
 use mathlib.Core.Bool.{Bool, true, false, true≢false}
 use mathlib.Core.List.{List, [], _∷_, _++_, append-nil, append-assoc}
 use native.Mathlib.Omega.{arith}
-use lib.Dec.{leb, ltb}
-use lib.ListN.{length, take, drop, length-append, take-append-drop, drop-of-length-le}
+use lib.Dec.{ltb}
+use lib.ListN.{length, take, drop, take-append-drop, drop-of-length-le}
 use lib.Seq.{length-take-le}
 use borrow.Author.Tests.{lt-ltb, le-ltb, le-leb, ltb-true, ltb-false}
 use Rattle.lists.specs.Pick.{pick}
-use Rattle.lists.specs.All.{All, none, _also_}
-use Rattle.refusal.specs.declared.Refusal.{Refusal}
-use Rattle.refusal.specs.declared.Refusal.the-variants.{ShortImage, ShortTable, DamagedWord}
-use Rattle.refusal.specs.declared.Verdict.{Verdict}
-use Rattle.refusal.specs.declared.Verdict.the-variants.{Pass, Refused}
+use Rattle.refusal.specs.declared.Refusal.the-variants.{ShortTable}
 use Rattle.util.specs.Words.{wordAt}
 use Rattle.map.specs.Map.{cardWords, imageBytes, framePixels}
-use Rattle.eeprom.specs.Load.{Tables, shortest, Loads}
+use Rattle.eeprom.specs.Load.{Tables, shortest}
 use Rattle.reader.specs.declared.Answer.{Answer}
-use Rattle.reader.specs.declared.Reading.{Reading}
-use Rattle.reader.specs.Bytes.{Held, held, oneMore, fed, firstSpoilt, keptOf, stateOf}
-use Rattle.reader.specs.Calls.{loadedOf, lentAfter, more, ends, refused, Judged, judged, judges, After, after, answering, takesOn, takes, finishes, Call, State, calling, leaves, afterCalls, begun, brings, takenOf, judgedOf, heard, saidBy}
+use Rattle.reader.specs.Bytes.{Held, held, firstSpoilt, keptOf, stateOf}
+use Rattle.reader.specs.Calls.{more, refused, Judged, judged, judges, After, after, answering, takesOn, takes, Call, State, calling, leaves, afterCalls, begun, brings, takenOf, judgedOf, heard, saidBy}
 use Rattle.reader.proofs.Local.{word-more}
+use Rattle.reader.proofs.Taking.{after-damage, past-card}
 use Rattle.reader.proofs.Says.{Says, sound, spoilt, stands}
 use Rattle.reader.proofs.Means.{no-first, the-first, spoilt-within, more-mean, says}
 
@@ -127,17 +122,6 @@ module _ (l : List ℕ) (range : ℕ) (t : Tables) where
 
   pub wanting : judgedOf l range t .answer .more ≡ true → Wanting l
   wanting m = wanting-by (ltb (firstSpoilt l) cardWords) (ltb (length l) imageBytes) refl refl m
-
--- a byte changes nothing after a damaged word, nor past the card
-after-damage : (x : List ℕ) (h : Held) → ltb (h .kept .damaged) cardWords ≡ true → fed h x ≡ h
-unfolding oneMore
-after-damage [] h e = refl
-after-damage (b ∷ x) h e = rw e (after-damage x h e)
-
-past-card : (x : List ℕ) (h : Held) → ltb (h .kept .damaged) cardWords ≡ false → leb imageBytes (h .kept .count) ≡ true → fed h x ≡ h
-unfolding oneMore
-past-card [] h e f = refl
-past-card (b ∷ x) h e f = rw (e, f) (past-card x h e f)
 
 module _ (lent l : List ℕ) (room : imageBytes ≤ length lent) (range : ℕ) (t : Tables) (x : List ℕ) where
   still-by : (b d : Bool) → ltb (firstSpoilt l) cardWords ≡ b → ltb (length l) imageBytes ≡ d → judgedOf l range t .answer .more ≡ false → stateOf lent (l ++ x) ≡ stateOf lent l

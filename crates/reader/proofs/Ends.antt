@@ -1,5 +1,5 @@
 -- The end is heard in time; "finished" gives the bytes so far; an empty piece changes nothing; and no table changes until a card is done. Assumes nothing.
-use Prim.Native.Nat.{ℕ, _+_, _*_, _<_, _≤_, min}
+use Prim.Native.Nat.{ℕ, _<_, _≤_}
 use mathlib.Core.Path.{_≡_, refl, sym, ap, _∙_}
 use mathlib.Core.Bool.{Bool, true, false, true≢false}
 use mathlib.Core.List.{List, [], _∷_, _++_, append-nil, append-assoc}
@@ -17,11 +17,10 @@ use Rattle.refusal.specs.Refusal.{unless}
 use Rattle.map.specs.Map.{cardWords, imageBytes, framePixels}
 use Rattle.card.specs.Card.{dataAt}
 use Rattle.eeprom.specs.Load.{Tables, shortest, filledTables}
-use Rattle.reader.specs.declared.Answer.{Answer}
 use Rattle.reader.specs.declared.Reading.{Reading}
 use Rattle.reader.specs.Bytes.{Held, held, fed, keptOf, stateOf}
-use Rattle.reader.specs.Calls.{loadedOf, lentAfter, more, refused, judges, after, answering, takesOn, takes, finishes, Call, State, calling, afterCalls, begun, brings, takenOf, judgedOf, heard}
-use Rattle.reader.proofs.Calls.{Wanting, stateFor, ended-call, taken-call, wants, wanting, none-want, calls-mean}
+use Rattle.reader.specs.Calls.{loadedOf, lentAfter, more, refused, judges, after, takesOn, takes, finishes, Call, State, calling, afterCalls, begun, brings, takenOf, judgedOf, heard}
+use Rattle.reader.proofs.Calls.{Wanting, stateFor, taken-call, wants, wanting, none-want, calls-mean}
 
 -- ---- heard in time
 

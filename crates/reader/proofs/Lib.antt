@@ -2,6 +2,7 @@
 mod Fold
 mod Loading
 mod Local
+mod Taking
 mod Says
 pub mod Means
 pub mod Calls

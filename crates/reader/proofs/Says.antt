@@ -8,7 +8,7 @@ use native.Mathlib.Omega.{arith}
 use lib.Dec.{eqb, leb}
 use lib.ListN.{length, set, take, drop, length-append}
 use lib.Seq.{take-all, take-append-le, drop-cons, set-append-seam}
-use borrow.Author.Tests.{eqb-true, eqb-false, lt-ltb, le-leb, lt-leb, leb-true, leb-false}
+use borrow.Author.Tests.{eqb-true, eqb-false, lt-ltb, leb-true, leb-false}
 use Rattle.map.specs.Map.{cardWords, imageBytes}
 use Rattle.card.specs.Card.{damagedAt}
 use Rattle.reader.specs.Bytes.{Held, held, completes, oneMore}

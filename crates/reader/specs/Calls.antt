@@ -1,6 +1,6 @@
 -- Document 02, request 5: what a call answers and leaves, and what any calls come to. Assumes nothing.
 use Prim.Native.Nat.{ℕ}
-use mathlib.Core.Bool.{Bool, true, false}
+use mathlib.Core.Bool.{true, false}
 use mathlib.Core.List.{List, [], _∷_, _++_, foldl}
 use lib.Dec.{ltb}
 use lib.ListN.{length, take}

@@ -1,7 +1,8 @@
 // A card that arrives in pieces of any length. The bytes so far are in a lent array of a card's size, and the rest of the state goes by value.
 ghost use mathlib.Core.Path.{_≡_};
+ghost use Prim.Native.Nat.{_<_};
 ghost use Rattle.eeprom.specs.Load.{tables};
-ghost use Rattle.reader.specs.Bytes.{held, oneMore, fed};
+ghost use Rattle.reader.specs.Bytes.{held, taking, fed};
 ghost use Rattle.reader.specs.Calls.{start, more, refused, judged, judges, after, takesOn, takes, finishes};
 use eeprom::Loaded;
 use map::IMAGE_BYTES;
@@ -80,17 +81,11 @@ pub fn new() -> Reading
     }
 }
 
-// One byte. None is kept after a damaged word, nor past the card.
-fn one(image: &mut Image, kept: Kept, byte: u8) -> Kept
-    ensures { λ r. ⌜ held (now (image .exit)) r ≡ oneMore (held (now (image .entry)) kept) byte ⌝ }
+// A byte that is taken.
+fn one(image: &mut Image, count: usize, byte: u8) -> Kept
+    requires { ⌜ count < 1664 ⌝ }
+    ensures { λ r. ⌜ held (now (image .exit)) r ≡ taking (now (image .entry)) count byte ⌝ }
 {
-    let count = kept.count;
-    if kept.damaged < WORDS {
-        return kept;
-    }
-    if IMAGE_BYTES <= count {
-        return kept;
-    }
     image[count] = byte;
     let next = count + 1;
     if count % 2 == 0 {
@@ -113,7 +108,7 @@ fn one(image: &mut Image, kept: Kept, byte: u8) -> Kept
     }
 }
 
-// The bytes of a piece, after those that are kept.
+// The bytes of a piece, after those that are kept. None is taken after a damaged word, nor past the card.
 fn feed(image: &mut Image, count: usize, piece: &[u8]) -> Kept
     ensures { λ r. ⌜ held (now (image .exit)) r ≡ fed (held (now (image .entry)) (record { count = count; damaged = 832 })) (now (piece .entry)) ⌝ }
 {
@@ -123,7 +118,13 @@ fn feed(image: &mut Image, count: usize, piece: &[u8]) -> Kept
     };
     let mut i = 0;
     while i < piece.len() {
-        kept = one(image, kept, piece[i]);
+        if kept.damaged < WORDS {
+            return kept;
+        }
+        if IMAGE_BYTES <= kept.count {
+            return kept;
+        }
+        kept = one(image, kept.count, piece[i]);
         i += 1;
     }
     kept
@@ -236,6 +237,7 @@ pub fn take(
     }
     Taken { reading, answer }
 }
+
 // No more bytes come: a reading that has not ended ends, with refusal 1 and the bytes so far.
 pub fn finished(reading: Reading) -> Reading
     ensures { λ r. ⌜ r ≡ finishes reading ⌝ }

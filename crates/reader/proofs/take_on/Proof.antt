@@ -1,7 +1,7 @@
 -- `reader::take_on` meets its contract: short tables stop it, and else the bytes are taken and judged. Assumes nothing.
 use borrow.Author.Needs.{needs}
 use borrow.Author.Tests.{lt-ltb, le-ltb}
-use mathlib.Core.Path.{_≡_, refl, sym, ap, _∙_}
+use mathlib.Core.Path.{_≡_, refl, ap, _∙_}
 use mathlib.Core.List.{List}
 use Prim.Native.Nat.{ℕ, _<_, _≤_}
 use Rattle.map.specs.Map.{cardWords, framePixels}
@@ -10,7 +10,7 @@ use Rattle.eeprom.specs.Load.{Tables, tables, shortest}
 use Rattle.reader.specs.declared.Answer.{Answer}
 use Rattle.reader.specs.declared.Kept.{Kept}
 use Rattle.reader.specs.declared.Reading.{Reading}
-use Rattle.reader.specs.Bytes.{Held, held, fed}
+use Rattle.reader.specs.Bytes.{held, fed}
 use Rattle.reader.specs.Calls.{refused, judged, judges, after, takesOn}
 use Rattle.reader.proofs.take_on.Statement.{statement}
 use Rattle.reader.proofs.take_on.Tie as tie
