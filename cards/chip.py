@@ -232,3 +232,23 @@ def scrub(image):
             if data is not None:
                 image = stepped(image, (k, encode(data)))
     return (0, 0, 0), image, changed, damaged
+
+
+# ---- A card in pieces
+
+def heard(so_far):
+    """Document 02, CR 5: of the bytes so far, how many are kept, and the answer: number, place, value and how many words were mended; None while
+    more are wanted. A word is whole with its second byte. Once there is an answer, more bytes leave both as they are."""
+    so_far = so_far[:BYTES]
+    for k in range(len(so_far) // 2):
+        word = int.from_bytes(so_far[2 * k:2 * k + 2], "big")
+        if is_checked(k) and check(word) is None:
+            return 2 * k + 2, (3, k, word, 0)
+    if len(so_far) < BYTES:
+        return len(so_far), None
+    return BYTES, verdict(so_far) + mending(so_far)[:1]
+
+
+def heard_at_end(so_far):
+    """What the reader answers when it hears that no more bytes come."""
+    return heard(so_far)[1] or (1, len(so_far), 0, 0)

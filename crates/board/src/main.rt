@@ -3,32 +3,13 @@
 // served by a buffer of 4,096 bytes that is read until it is full or the input ends; what follows is not read.
 // On standard error a refusal is told as `refused` with number, place and value. Where reading or writing fails it has `failed`; of input that
 // failed nothing goes to standard output.
-use console::put;
-use console::tab_number;
+use board_lines::BASIC_RANGE;
+use board_lines::end_line;
+use board_lines::load_line;
 use eeprom::Loaded;
 use libc::STDIN_FILENO;
 use map::IMAGE_BYTES;
 use offsets::Offset;
-
-// The camera's basic temperature range, by the crate.
-const BASIC_RANGE: usize = 2;
-
-// The refusal's number, place and value, and how many words were mended; false where writing failed.
-fn load_line(loaded: Loaded) -> bool {
-    let verdict = loaded.verdict;
-    let mending = loaded.mending;
-    let told = verdict.told();
-    put(b"load")
-        && tab_number(told.number)
-        && tab_number(told.place)
-        && tab_number(told.value)
-        && tab_number(mending.count as u64)
-        && put(b"\n")
-}
-
-fn end_line(lines: u64) -> bool {
-    put(b"end") && tab_number(lines) && put(b"\n")
-}
 
 fn run(image: &[u8]) -> Loaded {
     let mut offsets0: [Offset; 192] = [0; 192];

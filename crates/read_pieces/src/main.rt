@@ -1,0 +1,148 @@
+// Reads cards from standard input in pieces, as a bus hands them over, and writes the board's lines for each card.
+// A piece is its size, two bytes with the upper one first, and then so many bytes. In place of a size 0xFFFF says that the card is finished, and the next
+// one begins; 0xFFFE asks how far it is: a line `kept` has how many bytes are kept and, once the reading has ended, its answer as `load` has it.
+// Where the input ends a piece has the bytes that came, and a card that has begun is finished. Where reading fails standard error has `failed`.
+ghost use Prim.Native.Nat.{_≤_};
+ghost use lib.ListN.{length};
+use board_lines::BASIC_RANGE;
+use console::put;
+use console::tab_number;
+use libc::STDIN_FILENO;
+use map::IMAGE_BYTES;
+use offsets::Offset;
+use reader::Image;
+use reader::Reading;
+
+const ASKED: usize = 0xFFFE;
+
+const FINISHED: usize = 0xFFFF;
+
+// The input has ended.
+const ENDED: usize = 0x10000;
+
+// A card on its way, whether anything of it came, and how many lines were written of it.
+struct Arrival {
+    reading: Reading,
+    begun: bool,
+    lines: u64,
+}
+
+fn next_card() -> Arrival {
+    let reading = reader::new();
+    Arrival {
+        reading,
+        begun: false,
+        lines: 0,
+    }
+}
+
+fn one_more(n: u64) -> u64 {
+    std::num::wrapping_add_u64(n, 1)
+}
+
+// The size of the next piece, or what stands in its place.
+fn next_size() -> usize
+    ensures { λ r. ⌜ r ≤ 65536 ⌝ }
+{
+    let mut two = [0u8; 2];
+    let n = io::read_full(STDIN_FILENO, &mut two);
+    if n < 2 {
+        return ENDED;
+    }
+    util::big_endian(two[0], two[1]) as usize
+}
+
+fn take(image: &mut Image, reading: Reading, piece: &[u8]) -> Reading {
+    let mut offsets0: [Offset; 192] = [0; 192];
+    let mut offsets1: [Offset; 192] = [0; 192];
+    let mut alpha = [0.0f32; 192];
+    let mut k_v = [0.0f32; 192];
+    let mut k_ta = [0.0f32; 192];
+    let taken = reader::take(
+        image,
+        reading,
+        piece,
+        BASIC_RANGE,
+        &mut offsets0,
+        &mut offsets1,
+        &mut alpha,
+        &mut k_v,
+        &mut k_ta,
+    );
+    taken.reading
+}
+
+// Takes the piece that the input has next, as many bytes as there is room or as came.
+fn take_next(image: &mut Image, reading: Reading, room: &mut [u8]) -> Reading {
+    let n = io::read_full(STDIN_FILENO, room);
+    take(image, reading, &room[..n])
+}
+
+fn kept_line(reading: Reading) {
+    put(b"kept");
+    tab_number(reading.count as u64);
+    let answer = reading.answer;
+    let loaded = answer.loaded;
+    if !answer.more {
+        board_lines::answer(loaded);
+    }
+    put(b"\n");
+}
+
+fn finish(arrival: Arrival) {
+    let reading = reader::finished(arrival.reading);
+    let answer = reading.answer;
+    let loaded = answer.loaded;
+    board_lines::load_line(loaded);
+    board_lines::end_line(one_more(arrival.lines));
+}
+
+// Does what the size says, and gives the card after it.
+fn step(image: &mut Image, buffer: &mut [u8], arrival: Arrival, size: usize) -> Arrival
+    requires { ⌜ size ≤ length (now buffer) ⌝ }
+{
+    if size == FINISHED {
+        finish(arrival);
+        return next_card();
+    }
+    let reading = arrival.reading;
+    let lines = arrival.lines;
+    if size == ASKED {
+        kept_line(reading);
+        return Arrival {
+            reading,
+            begun: true,
+            lines: one_more(lines),
+        };
+    }
+    let after = take_next(image, reading, &mut buffer[..size]);
+    Arrival {
+        reading: after,
+        begun: true,
+        lines,
+    }
+}
+
+// At most so many pieces, and what stands in the place of one.
+fn run(most: u64) {
+    let mut image = [0u8; IMAGE_BYTES];
+    let mut buffer = io::large_buffer();
+    let mut arrival = next_card();
+    for _ in 0..most {
+        let size = next_size();
+        if size == ENDED {
+            break;
+        }
+        arrival = step(&mut image, &mut buffer, arrival, size);
+    }
+    if arrival.begun {
+        finish(arrival);
+    }
+}
+
+fn main() {
+    run(0xFFFFFFFFFFFFFFFF);
+    if !console::ended() {
+        console::failed();
+    }
+}
