@@ -147,15 +147,24 @@ fn main() {
     let mut tables = frames[0].tables.clone();
     let words = words();
     let mut least = [[f64::MAX; 3]; 7];
-    let (mut filtered, mut ranged) = (f64::MAX, f64::MAX);
+    let masked = |pixels: &[usize]| frames.iter().map(|f| Frame { mask: (0..192).map(|k| pixels.contains(&k) as u8).collect(), ..f.clone() }).collect::<Vec<_>>();
+    let (one, none) = (masked(&[100]), masked(&[]));
+    let dead: Vec<usize> = (0..192).filter(|k| *k != 100).collect();
+    let dead = masked(&dead);
+    let mut others = [f64::MAX; 5];
     let keep = |slot: &mut f64, t: f64| *slot = slot.min(t);
     for _ in 0..ROUNDS {
         let pass = &mut least[0];
         keep(&mut pass[0], time(FRAMES, |k| { black_box(published::one_pass(&p, black_box(&frames[k % 16]), black_box(&mut a))); }));
         keep(&mut pass[1], time(FRAMES, |k| { black_box(rooted::one_pass(&r, black_box(&frames[k % 16]), black_box(&mut a))); }));
         keep(&mut pass[2], time(FRAMES, |k| { black_box(library::raw_pixels_to_temperatures(black_box(&frames[k % 16]), black_box(&mut b))); }));
-        keep(&mut filtered, time(FRAMES, |k| { black_box(library::filtered_pixels_to_temperatures(black_box(&frames[k % 16]), Some(-105.5), black_box(&mut b))); }));
-        keep(&mut ranged, time(FRAMES, |k| { black_box(library::raw_pixels_to_ranged_temperatures(black_box(&frames[k % 16]), black_box(&mut b))); }));
+        keep(&mut others[0], time(FRAMES, |k| { black_box(library::filtered_pixels_to_temperatures(black_box(&frames[k % 16]), Some(-105.5), black_box(&mut b))); }));
+        keep(&mut others[1], time(FRAMES, |k| { black_box(library::raw_pixels_to_ranged_temperatures(black_box(&frames[k % 16]), black_box(&mut b))); }));
+        // What is not asked for is as bad as it gets.
+        b = [f32::INFINITY.to_bits(); 192];
+        for (slot, frames) in others[2..].iter_mut().zip([&dead, &one, &none]) {
+            keep(slot, time(FRAMES, |k| { black_box(library::raw_pixels_to_temperatures(black_box(&frames[k % 16]), black_box(&mut b))); }));
+        }
         let infrared = &mut least[1];
         keep(&mut infrared[0], time(FRAMES, |k| { black_box(published::infrared(&p, black_box(&frames[k % 16]), black_box(&mut a))); }));
         keep(&mut infrared[1], time(FRAMES, |k| { black_box(rooted::infrared(&r, black_box(&frames[k % 16]), black_box(&mut a))); }));
@@ -178,7 +187,8 @@ fn main() {
     }
     println!("least of {ROUNDS} rounds; {FRAMES} frames, {LOADS} loads and {SWEEPS} times every word in each");
     line("one pass, a frame", least[0]);
-    for (what, time) in [("with a filter's answer", filtered), ("the second pass", ranged)] {
+    let names = ["with a filter's answer", "the second pass", "all but one pixel asked for", "one pixel asked for", "none asked for"];
+    for (what, time) in names.iter().zip(others) {
         println!("{what}, a frame\tlibrary {time:.0} ns\tover one pass {:.2}", time / least[0][2]);
     }
     line("of it, pixels to infrared", least[1]);

@@ -137,10 +137,9 @@ fn settled(bits: &[u32; SIDE], first: &[u32; SIDE], second: &[u32; SIDE], roots:
     for i in 0..SIDE {
         let pattern = pattern_of(bits[i], first[i], second[i]);
         roots[i] = f32::from_bits(pattern);
-        if pattern != 0 {
-            continue;
+        if pattern == 0 {
+            open += 1;
         }
-        open += 1;
     }
     open
 }

@@ -1,7 +1,16 @@
 // Counts how often the guesses at the two square roots miss, and by how much: every answer is proved, and the speed rests on the guesses.
-// The numbers are 4113 of each exponent, from its first to its last; of the subnormals the 2048 least are among them.
+// The numbers are 4113 of each exponent, from its first to its last; of the subnormals the 2048 least are among them. Of the guesses side by side, which see a
+// pattern mod 2^25, it counts how many roots they leave open, of every number from 1 up to 16.
 use libc::STDOUT_FILENO;
+use root::many::SIDE;
 ghost use Prim.Native.Nat.{_≤_, _<_};
+
+// The pattern of 1, how many patterns there are from there up to 16, and how many blocks of those that go side by side.
+const ONE: u32 = 0x3F80_0000;
+
+const TO_SIXTEEN: u64 = 0x200_0000;
+
+const BLOCKS: u32 = 0x10_0000;
 
 // What one number showed: 1 for each guess that missed, and the most steps from a guess to the root.
 struct Shown {
@@ -83,6 +92,26 @@ fn sweep() -> Tally {
     }
 }
 
+// How many roots are left open of the numbers whose patterns begin with this one.
+fn open_of(first: u32) -> u32
+    requires { ⌜ first < 0x41800000 ⌝ }
+{
+    let mut x = [1.0f32; SIDE];
+    for i in 0..SIDE {
+        x[i] = floats::from_bits(first + i as u32);
+    }
+    let mut roots = [0.0f32; SIDE];
+    root::many::guessed(&x, &mut roots)
+}
+
+fn sweep_side_by_side() -> u64 {
+    let mut open: u64 = 0;
+    for block in 0..BLOCKS {
+        open = std::num::wrapping_add_u64(open, open_of(ONE + block * 32) as u64);
+    }
+    open
+}
+
 fn line(name: &[u8], number: u64) {
     io::write_all(STDOUT_FILENO, name);
     io::write_all(STDOUT_FILENO, b"\t");
@@ -96,4 +125,6 @@ fn main() {
     line(b"first", t.first);
     line(b"second", t.second);
     line(b"most steps", t.steps);
+    line(b"side by side", TO_SIXTEEN);
+    line(b"left open", sweep_side_by_side());
 }

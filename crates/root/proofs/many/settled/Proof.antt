@@ -2,7 +2,8 @@
 use borrow.Author.Needs.{needs}
 use Prim.Native.Nat.{ℕ, _-_, _≤_}
 use native.Mathlib.Omega.{arith}
-use mathlib.Core.Path.{_≡_, refl, _∙_}
+use mathlib.Core.Path.{_≡_, refl}
+use mathlib.Core.Logic.{⊎-elim}
 use lib.ListN.{length, length-set}
 use Rattle.floats.proofs.Nan.{number-below}
 use Rattle.root.specs.Many.{side, Leaves}
@@ -25,12 +26,11 @@ float-from-bits-roots c = number-below _ (omega (arith, c .pattern-of .ensures .
 loop-again : tie.Need-loop-again Inv-loop μ-loop
 loop-again c =
     let l = c .before .before .before .before .before .before .loop in
-    (omega arith, omega arith, simp length-set (l .inv .2), there _ (l .inv .3) (omega arith) (c .before .pattern-of .ensures) (omega arith))
-
-loop-again-2 : tie.Need-loop-again-2 Inv-loop μ-loop
-loop-again-2 c =
-    let l = c .before .before .before .before .before .before .loop in
-    (omega arith, omega arith, simp length-set (l .inv .2), left _ (l .inv .3) (omega arith) (c .before .pattern-of .ensures))
+    let f = c .before .pattern-of .ensures in
+    ⊎-elim
+    (λ w. rw (w .1) (omega arith, omega arith, simp length-set (l .inv .2), left _ (l .inv .3) (omega arith) f))
+    (λ w. let some = w .0 .left in rw (w .1) (omega arith, omega arith, simp length-set (l .inv .2), there _ (l .inv .3) (omega arith) f (omega arith)))
+    (c .if1 .came)
 
 returns : tie.Need-returns Inv-loop μ-loop
 returns c = let e : c .before .loop .i ≡ side = omega arith in (rw e at (c .before .loop .inv .3), c .before .loop .inv .2)
@@ -54,10 +54,7 @@ settled-spec =
     (λ c. search needs)
     (λ c. search needs)
     (λ c. search needs)
+    (λ c. search needs)
     loop-again
-    (λ c. search needs)
-    (λ c. search needs)
-    (λ c. search needs)
-    loop-again-2
     (λ c. search needs)
     returns)
