@@ -329,7 +329,7 @@ typedef struct {
 #define LOAMCHALICE_HEAT settings->basic_range, settings->reflected_given, loamchalice_around(settings)
 #define LOAMCHALICE_FRAME pixels, pixels_length, LOAMCHALICE_LENT(mask), LOAMCHALICE_LENT(destination)
 
-/* loamchalice_load with the camera's basic range. A refused card leaves the camera as it was. Refusals 1, 3, 4. */
+/* loamchalice_load with the camera's basic range. A refused card leaves the camera as it was. Refusals 1, 3, 4, 13. */
 static inline loamchalice_loaded loamchalice_camera_load(loamchalice_camera *camera, const uint8_t *image, size_t image_length) {
     loamchalice_loaded loaded =
         loamchalice_load(image, image_length, LOAMCHALICE_BASIC_RANGE, LOAMCHALICE_OFFSETS, LOAMCHALICE_LENT(camera->alpha), LOAMCHALICE_K);
