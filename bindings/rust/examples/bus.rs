@@ -1,6 +1,6 @@
-//! A card and frames read through a closure in place of a bus, with the camera's addresses. Words come big-endian, as from the device.
+//! A card in pieces and frames, read through a closure in place of a bus, with the camera's addresses. Words come big-endian, as from the device.
 //!   cargo run --offline --example bus -- ../../cards/sound.bin
-use loamchalice::{Calibration, RamData, Subpage};
+use loamchalice::{Calibration, RamData, Reader, Refusal, Subpage};
 
 const CARD: u16 = 0x2400; // 832 words
 const RAM: u16 = 0x0400;
@@ -14,6 +14,17 @@ fn word(read: &mut impl FnMut(u16, &mut [u8]), address: u16) -> i16 {
     let mut bytes = [0; 2];
     read(address, &mut bytes);
     i16::from_be_bytes(bytes)
+}
+
+// The card's pieces, of 64 bytes: what comes is judged as it comes, so a damaged word ends the reading where it stands.
+fn read_card(pieces: impl Iterator<Item = [u8; 64]>) -> Result<Calibration, Refusal> {
+    let mut reader = Reader::new();
+    for piece in pieces {
+        if let Some(camera) = reader.take(&piece)? {
+            return Ok(camera);
+        }
+    }
+    reader.finished()
 }
 
 // Pixels stand in six blocks of 32 words for subpage 0, each followed by one for subpage 1.
@@ -51,9 +62,11 @@ fn main() -> Result<(), Box<dyn std::error::Error>> {
             pair.copy_from_slice(there.and_then(|rest| rest.get(..2)).unwrap_or(&value.to_be_bytes()));
         }
     };
-    let mut image = [0; 1664];
-    read(CARD, &mut image);
-    let camera = Calibration::from_data(&image)?;
+    let camera = read_card((0..26).map(|piece| {
+        let mut bytes = [0; 64];
+        read(CARD + 32 * piece, &mut bytes);
+        bytes
+    }))?;
     let settings = camera.settings(2); // bits 10 and 11 of the control register
     for subpage in [Subpage::Zero, Subpage::One] {
         let (ram, pixels) = read_frame(&mut read, subpage);
