@@ -6,7 +6,7 @@ ghost use lib.ListN.{length};
 ghost use lib.Ieee.{nan};
 ghost use Rattle.lists.specs.Each.{Each};
 ghost use Rattle.floats.specs.Floats.{real};
-ghost use Rattle.root.specs.Many.{side};
+ghost use Rattle.roots.specs.Many.{side};
 ghost use Rattle.map.specs.Map.{framePixels};
 ghost use Rattle.pixels.specs.Pixels.{touched, readingAt, held, infraredBits, temperatureBits, into, lostOf};
 ghost use Rattle.pixels.specs.Inner.{raw, rawAt, underAt, rootedAt, liftedAt, warmAt, degreesAt, celsiusAt, valueAt, decidedBits, lostNumber};
@@ -17,7 +17,7 @@ use formulas::Deduction;
 use formulas::Pixel;
 use map::PIXELS;
 use offsets::Offset;
-use root::many::SIDE;
+use roots::SIDE;
 
 // How many blocks of pixels that go side by side there are.
 pub const BLOCKS: usize = 6;
@@ -238,7 +238,7 @@ pub fn final_block(
     let mut under = [0.0f32; SIDE];
     let mut roots = [0.0f32; SIDE];
     under_roots(common, alpha, infrared, base, &mut under);
-    root::many::fourth_roots(&under, &mut roots);
+    roots::fourth_roots(&under, &mut roots);
     final_values(common, alpha, infrared, base, &roots, values);
 }
 
@@ -259,7 +259,7 @@ pub fn put_temperatures(values: &[f32; SIDE], base: usize, temperatures: &mut [f
     ensures { λ r. ⌜ Part (celsiusAt (now (values .entry))) base side (now (temperatures .entry)) (now (temperatures .exit)) ⌝ }
 {
     let mut roots = [0.0f32; SIDE];
-    root::many::fourth_roots(values, &mut roots);
+    roots::fourth_roots(values, &mut roots);
     put_degrees(&roots, base, temperatures);
 }
 

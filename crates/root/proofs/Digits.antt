@@ -5,11 +5,9 @@ use native.Mathlib.Nat.{mul-assoc}
 use native.Mathlib.Omega.{arith}
 use lib.Pow.{pow-add}
 use Rattle.root.specs.Root.{magnitude, rootPattern}
-use Rattle.root.specs.Whole.{Rounds, Digits, Twice, Lifted}
-use Rattle.root.specs.Many.{Found}
+use Rattle.root.specs.Whole.{Digits, Twice, Lifted}
 use Rattle.root.proofs.Patterns.{Scaled, Nearest}
-use Rattle.root.proofs.Squares.{rounded}
-use Rattle.root.proofs.Magnitude.{mag-at, nearest-of, lifted-normal}
+use Rattle.root.proofs.Magnitude.{mag-at, nearest-of}
 use Rattle.root.proofs.Unique.{is-root}
 
 at : (m k q : ℕ) → Digits m k q → Scaled m k (0x800000 * (k / 2) + q)
@@ -30,21 +28,3 @@ fourth b w r l z =
     let t : ℕ = 0x800000 * ((k / 2 + 126) / 2) + z .p in
     let o : Nearest s t = nearest-of s (z .q) (k / 2 + 126) t (again k (z .q) (z .first .from) (z .first .under)) (z .first .from) (z .first .under) (omega (arith, l .under)) (at (z .q) (k / 2 + 126) (z .p) (z .second)) in
     (z .sum ∙ is-root s t o ∙ ap rootPattern (is-root b s n), subst (λ (x : ℕ). x < 0x7F800000) (sym (z .sum)) (o .finite))
-
--- of a normal number, whose digits and exponent w holds
-module _ (b w q p : ℕ) (lo : 0x800000 ≤ b) (hi : b < 0x7F800000) (e : w ≡ b + 0x3E800000) (from : 0x800000 ≤ q) (under : q < 0x1000000) where
-  pub found : Rounds ((w % 0x800000 + 0x800000) * (0x800000 + 0x800000 * (w / 0x800000 % 2))) q
-      → Rounds (q * (0x800000 + 0x800000 * (w / 0x800000 / 2 % 2))) p → Found b (0x800000 * (w / 0x800000 / 4 + 63) + p)
-  found f s =
-      let k : ℕ = w / 0x800000 in
-      let even : k / 2 % 2 ≡ (k / 2 + 126) % 2 = omega arith in
-      let two : Twice w (0x800000 * (k / 4 + 63) + p) = record {
-        q = q;
-        p = p;
-        first = rounded (w % 0x800000 + 0x800000) k q (omega arith) (omega arith) f;
-        second = rounded q (k / 2 + 126) p from under (rw even at s);
-        sum = omega arith;
-      } in
-      let l : Lifted b w = rw e (lifted-normal b lo hi) in
-      let r = fourth b w (0x800000 * (k / 4 + 63) + p) l two in
-      record { finite = r .1; right = λ _. (omega arith, hi, r .0) }

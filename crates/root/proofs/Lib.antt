@@ -1,16 +1,16 @@
--- Apart, Ends, Nearest, Demand and Readings are for callers to cite; the rest is what they lean on.
+-- Apart, Ends, Nearest, Demand and Readings are for callers to cite; Numbers, Squares, Magnitude, Values and Digits for roots side by side, in `roots`; the rest is
+-- what they lean on.
 mod Patterns
-mod Numbers
+pub mod Numbers
 mod Fractions
-mod Squares
-mod Magnitude
+pub mod Squares
+pub mod Magnitude
 mod Unique
-mod Digits
+pub mod Digits
 mod Exists
-mod Values
+pub mod Values
 mod Bits
 mod Fourth
-mod Open
 mod Kelvin
 pub mod Apart
 pub mod Ends

@@ -1,6 +1,5 @@
 // The fourth root of a binary32: two square roots, each the nearest, settled by comparing whole squares.
 pub mod guess;
-pub mod many;
 mod rows;
 mod whole;
 

@@ -2,7 +2,7 @@
 // The numbers are 4113 of each exponent, from its first to its last; of the subnormals the 2048 least are among them. Of the guesses side by side, which see a
 // pattern mod 2^25, it counts how many roots they leave open, of every number from 1 up to 16.
 use libc::STDOUT_FILENO;
-use root::many::SIDE;
+use roots::SIDE;
 ghost use Prim.Native.Nat.{_≤_, _<_};
 
 // The pattern of 1, how many patterns there are from there up to 16, and how many blocks of those that go side by side.
@@ -101,7 +101,7 @@ fn open_of(first: u32) -> u32
         x[i] = floats::from_bits(first + i as u32);
     }
     let mut roots = [0.0f32; SIDE];
-    root::many::guessed(&x, &mut roots)
+    roots::guessed(&x, &mut roots)
 }
 
 fn sweep_side_by_side() -> u64 {

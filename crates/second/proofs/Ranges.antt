@@ -6,7 +6,7 @@ use native.Mathlib.Omega.{arith}
 use lib.ListN.{getD}
 use lib.Ieee.{Float, nan}
 use Rattle.root.specs.Root.{celsius}
-use Rattle.root.specs.Many.{side}
+use Rattle.roots.specs.Many.{side}
 use Rattle.calibration.specs.declared.Calibration.{Calibration}
 use Rattle.formulas.specs.declared.CommonToData.{CommonToData}
 use Rattle.formulas.specs.Inner.{liftedSensitivity}

@@ -8,7 +8,7 @@ ghost use Rattle.lists.specs.Each.{Each};
 ghost use Rattle.floats.specs.Floats.{real};
 ghost use Rattle.refusal.specs.Order.{firstOf};
 ghost use Rattle.map.specs.Map.{framePixels};
-ghost use Rattle.root.specs.Many.{side};
+ghost use Rattle.roots.specs.Many.{side};
 ghost use Rattle.pixels.specs.Pixels.{held, temperatureBits, into, lostOf};
 ghost use Rattle.pixels.specs.Inner.{warmAt};
 ghost use Rattle.pixels.specs.Blocks.{from, is, Part, Asked};
@@ -28,7 +28,7 @@ use offsets::Offset;
 use pixels::BLOCKS;
 use refusal::Refusal;
 use refusal::Verdict;
-use root::many::SIDE;
+use roots::SIDE;
 
 // How many ranges there are.
 const RANGES: usize = 8;

@@ -4,7 +4,7 @@ use mathlib.Core.Path.{_≡_, sym, _∙_}
 use mathlib.Core.Bool.{true≢false}
 use Prim.Native.Nat.{_-_, _≤_}
 use native.Mathlib.Omega.{arith}
-use Rattle.root.specs.Many.{side}
+use Rattle.roots.specs.Many.{side}
 use Rattle.pixels.specs.Blocks.{Unasked}
 use Rattle.pixels.proofs.Blocks.{none-asked, nor-this}
 use Rattle.pixels.proofs.any_masked.Statement.{statement}

@@ -3,7 +3,7 @@ use borrow.Author.Needs.{needs}
 use mathlib.Core.Path.{_≡_}
 use Prim.Native.Nat.{_-_, _≤_}
 use native.Mathlib.Omega.{arith}
-use Rattle.root.specs.Many.{side}
+use Rattle.roots.specs.Many.{side}
 use Rattle.pixels.specs.Inner.{raw, rawAt}
 use Rattle.pixels.specs.Blocks.{from, Part}
 use Rattle.pixels.proofs.Blocks.{start, one-more}

@@ -5,7 +5,7 @@ use mathlib.Core.Path.{_≡_, refl, sym, _∙_}
 use native.Mathlib.Omega.{arith}
 use borrow.Author.Tests.{not-true}
 use lib.ListN.{length}
-use Rattle.root.specs.Many.{side}
+use Rattle.roots.specs.Many.{side}
 use Rattle.map.specs.Map.{framePixels}
 use Rattle.pixels.specs.Pixels.{held}
 use Rattle.pixels.specs.Inner.{liftedAt, warmAt}

@@ -7,7 +7,7 @@ use lib.ListN.{length, length-set}
 use lib.Ieee.{Float, nan}
 use Rattle.lists.specs.Each.{Each}
 use Rattle.lists.proofs.Each.{none, one-more}
-use Rattle.root.specs.Many.{side}
+use Rattle.roots.specs.Many.{side}
 use Rattle.formulas.specs.Inner.{liftedUnder}
 use Rattle.pixels.specs.Pixels.{held}
 use Rattle.pixels.specs.Inner.{underAt}

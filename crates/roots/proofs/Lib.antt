@@ -1,0 +1,3 @@
+-- What leads to the code.
+mod Found
+mod Open

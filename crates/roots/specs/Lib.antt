@@ -1,0 +1,2 @@
+-- Roots side by side.
+pub mod Many
