@@ -6,7 +6,7 @@ use mathlib.Core.Bool.{Bool, true, false, _&&_}
 use mathlib.Core.List.{List}
 use lib.Dec.{T, eqb}
 use lib.ListN.{getD, length}
-use lib.Ieee.{Float, nan, binary32, fits, ofBits}
+use lib.Ieee.{Float, binary32, fits, ofBits}
 use lib.Ieee.Bits.{ofBits-toBits}
 use Rattle.lists.specs.Pick.{pick}
 use Rattle.lists.specs.Written.{written}
@@ -16,7 +16,7 @@ use Rattle.lists.proofs.Written.{written-at}
 use Rattle.floats.specs.Constants.{pattern}
 use Rattle.map.specs.Map.{framePixels}
 use Rattle.formulas.specs.Pixel.{decided}
-use Rattle.pixels.specs.Pixels.{touched, held, infraredBits, answerBits, temperatureBits, into, lostOf}
+use Rattle.pixels.specs.Pixels.{touched, held, infraredBits, answerBits, into, lostOf}
 use Rattle.pixels.specs.Inner.{valueAt, decidedBits}
 use Rattle.pixels.specs.Blocks.{Asked}
 

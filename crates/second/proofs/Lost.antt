@@ -1,9 +1,7 @@
 -- A basic temperature that is not a number leaves none: this pass's X is then not a number either, so the pixel is written as the pattern.
 -- Assumes nothing.
-use mathlib.Core.Path.{_≡_, refl, ap, _∙_}
-use mathlib.Core.List.{List}
-use Prim.Native.Nat.{ℕ}
-use lib.Ieee.{Float, nan, inf, fin, add, sub, mul, div, neg}
+use mathlib.Core.Path.{_≡_, refl}
+use lib.Ieee.{Float, nan, inf, fin, add, sub, mul, div}
 use Rattle.floats.specs.Floats.{_⊕_, _⊖_, _⊗_, _⊘_}
 use Rattle.calibration.specs.declared.Calibration.{Calibration}
 use Rattle.second.specs.Second.{rangedOf}

@@ -1,13 +1,12 @@
 -- What a gate that lets pass tells: as for one pass, whose tests come first. Assumes nothing.
 use Prim.Native.Nat.{ℕ}
-use mathlib.Core.Path.{_≡_, refl, sym, _∙_}
-use mathlib.Core.List.{List, _++_}
+use mathlib.Core.Path.{_≡_, refl, _∙_}
 use lib.Ieee.{Float}
 use Rattle.refusal.specs.declared.Refusal.{Refusal}
 use Rattle.refusal.specs.declared.Verdict.{Verdict}
 use Rattle.refusal.specs.declared.Verdict.the-variants.{Pass, Refused}
 use Rattle.refusal.specs.Refusal.{unless}
-use Rattle.refusal.specs.Order.{Test, firstOf}
+use Rattle.refusal.specs.Order.{firstOf}
 use Rattle.refusal.proofs.Order.{in-turn, never}
 use Rattle.calibration.specs.declared.Calibration.{Calibration}
 use Rattle.formulas.specs.declared.RamData.{RamData}

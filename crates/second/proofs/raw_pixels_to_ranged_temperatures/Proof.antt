@@ -2,12 +2,9 @@
 -- numbers. Assumes nothing.
 use borrow.Author.Needs.{needs}
 use mathlib.Core.Path.{_≡_, sym, ap, _∙_}
-use Prim.Native.Nat.{ℕ, min, _≤_, _<_}
 use native.Mathlib.Omega.{arith}
-use lib.ListN.{length}
 use lib.Ieee.{binary32, toBits}
 use Rattle.refusal.specs.declared.Verdict.the-variants.{Pass}
-use Rattle.map.specs.Map.{framePixels}
 use Rattle.calculations.specs.Frames.{PassCall, irCall, passCall, ownReading, passLengths}
 use Rattle.calculations.proofs.Opened.{Open}
 use Rattle.calculations.proofs.Calls.{refused, done}

@@ -1,8 +1,6 @@
 -- `second::reached` meets its contract: the corner as a number is compared. Assumes nothing.
 use borrow.Author.Needs.{needs}
 use mathlib.Core.Path.{ap, _∙_}
-use mathlib.Core.Bool.{Bool}
-use lib.IntN.{ℤ}
 use lib.Ieee.{Float, le}
 use mir.Facts.{toZ-ofZ}
 use Rattle.floats.specs.Floats.{real}
