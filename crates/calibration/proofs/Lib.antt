@@ -1,2 +1,3 @@
--- The coefficients by their steps: laws that callers cite.
+-- The coefficients by their steps: laws that callers cite. Climb leads to the code.
 pub mod Steps
+mod Climb

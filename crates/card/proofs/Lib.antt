@@ -1,4 +1,5 @@
 -- The laws that callers cite are in Data and Times.
 mod Reading
+mod Parts
 pub mod Data
 pub mod Times

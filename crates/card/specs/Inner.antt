@@ -1,13 +1,18 @@
 -- For inner functions only. What a word of an image says, and what the cursor reads at a word of decoded data: the field, and the cursor past it.
 -- Assumes nothing.
-use Prim.Native.Nat.{ℕ, _+_}
-use mathlib.Core.Bool.{Bool}
+use Prim.Native.Nat.{ℕ, _+_, _<_, _≤_}
+use mathlib.Core.Path.{_≡_}
+use mathlib.Core.Bool.{Bool, true}
 use mathlib.Core.List.{List}
 use lib.IntN.{pos, _*ℤ_}
 use lib.ListN.{getD}
 use Rattle.lists.specs.Pick.{pick}
+use Rattle.lists.specs.Written.{filled}
 use Rattle.floats.specs.Floats.{real, over}
+use Rattle.util.specs.Words.{wordAt}
 use Rattle.util.specs.Fields.{signed, combined, pairOf}
+use Rattle.hamming.specs.Word.{codeword}
+use Rattle.map.specs.Map.{cardWords}
 use Rattle.card.specs.Card.{dataAt, damagedAt, strayAt}
 use Rattle.card.specs.declared.Read.{Read}
 use Rattle.card.specs.declared.Mending.{Mending}
@@ -23,6 +28,20 @@ readOf image word = record { value = dataAt image word; damaged = damagedAt imag
 -- one more word is counted if it is no codeword
 abbrev pub counted : Mending → ℕ → Bool → Mending
 counted m word stray = pick stray (record { count = m .count + 1; last = word }) m
+
+-- the n words from `first` on are codewords
+pub record Codewords (image : List ℕ) (first n : ℕ) : Type 0 where
+  pub at : (i : ℕ) → i < n → codeword (wordAt image (first + i)) ≡ true
+
+-- and stand on the card where all are checked
+pub record Clean (image : List ℕ) (first n : ℕ) : Type 0 where
+  pub from : 0 < n → 32 ≤ first
+  pub within : first + n ≤ cardWords
+  pub codewords : Codewords image first n
+
+-- a list that is filled up to w is now filled up to w + n
+pub record FilledOn (f : ℕ → ℕ) (w n : ℕ) (d d′ : List ℕ) : Type 0 where
+  pub on : (d₀ : List ℕ) → d ≡ filled f w d₀ → d′ ≡ filled f (w + n) d₀
 
 -- the data of a word by its number
 abbrev pub at : List ℕ → ℕ → ℕ

@@ -1,5 +1,6 @@
 // The words of a card: their data, the first that is damaged, those that are mended, and a cursor that reads fields off the data.
 ghost use mathlib.Core.Path.{_≡_};
+ghost use mathlib.Core.Bool.{true};
 ghost use Prim.Native.Nat.{_+_, _*_, _<_, _≤_};
 ghost use lib.ListN.{length};
 ghost use Rattle.lists.specs.Written.{filled};
@@ -8,11 +9,17 @@ ghost use Rattle.floats.specs.Floats.{real, over};
 ghost use Rattle.util.specs.Fields.{combined};
 ghost use Rattle.map.specs.Map.{cardWords, imageBytes};
 ghost use Rattle.card.specs.Card.{dataAt, firstDamaged, noMending, mendingBelow};
-ghost use Rattle.card.specs.Inner.{readOf, counted, plainAt, signedAt, combinedAt, splitAt, scaledAt, times32At, fractionAt, realAt};
+ghost use Rattle.card.specs.Inner.{readOf, counted, Codewords, Clean, FilledOn, plainAt, signedAt, combinedAt, splitAt, scaledAt, times32At, fractionAt, realAt};
 use hamming::Checked;
+use hamming::DATA_VALUES;
 use map::WORDS;
 use map::Words;
 use util::Pair;
+
+// Words are looked at side by side from a multiple of 32 on, but not among the first 32, of which some are unchecked.
+const NEAR: usize = 32;
+// As many at once, or else 32.
+const FAR: usize = 160;
 
 // How many checked words are no codewords, and the number of the last of them; 832 if there is none.
 pub struct Mending {
@@ -92,6 +99,51 @@ impl Mending {
     }
 }
 
+// Whether the n words from `first` on are codewords, with no branch for each.
+fn are_codewords(image: &[u8], first: usize, n: usize) -> bool
+    requires { ⌜ (imageBytes ≤ length (now image)) × (first + n ≤ cardWords) ⌝ }
+    ensures { λ r. ⌜ (r ≡ true → Codewords (now (image .entry)) first n) ⌝ }
+{
+    let mut stray: u8 = 0;
+    for i in 0..n {
+        let high = (first + i) * 2;
+        let low = high + 1;
+        stray = stray | hamming::stray(image[high], image[low]);
+    }
+    stray == 0
+}
+
+// How many words from this one on are seen at once to be clean: 160, 32 or none.
+fn clean_ahead(image: &[u8], word: usize) -> usize
+    requires { ⌜ (imageBytes ≤ length (now image)) × (word < cardWords) ⌝ }
+    ensures { λ r. ⌜ Clean (now (image .entry)) word r ⌝ }
+{
+    if word < NEAR {
+        return 0;
+    }
+    if word % NEAR != 0 {
+        return 0;
+    }
+    if word + FAR <= WORDS && are_codewords(image, word, FAR) {
+        return FAR;
+    }
+    if are_codewords(image, word, NEAR) {
+        return NEAR;
+    }
+    0
+}
+
+// The data of n words that are clean.
+fn fill_clean(image: &[u8], first: usize, n: usize, words: &mut Words)
+    requires { ⌜ (imageBytes ≤ length (now image)) × Clean (now image) first n ⌝ }
+    ensures { λ _. ⌜ FilledOn (dataAt (now (image .entry))) first n (now (words .entry)) (now (words .exit)) ⌝ }
+{
+    for i in 0..n {
+        let word = first + i;
+        words[word] = util::word_at(image, word) % DATA_VALUES;
+    }
+}
+
 // The first damaged word. The data of all words before it are in `words`.
 pub fn decode(image: &[u8], words: &mut Words) -> Decoded
     requires { ⌜ imageBytes ≤ length (now image) ⌝ }
@@ -104,6 +156,12 @@ pub fn decode(image: &[u8], words: &mut Words) -> Decoded
     let damaged = loop {
         if word == WORDS {
             break WORDS;
+        }
+        let clean = clean_ahead(image, word);
+        if 0 < clean {
+            fill_clean(image, word, clean, words);
+            word += clean;
+            continue;
         }
         let read = read_word(image, word);
         if read.damaged {

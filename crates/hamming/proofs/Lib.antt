@@ -3,6 +3,7 @@ mod Xor
 mod Linear
 mod Codes
 mod Folds
+mod Bytes
 mod Put
 mod Table
 pub mod Answers

@@ -1,8 +1,8 @@
 // The chip word: data in bits 0 to 10, check bits P0 to P4 in bits 11 to 15. Encoding data, and checking and mending a word.
 ghost use mathlib.Core.Path.{_≡_};
-ghost use Prim.Native.Nat.{_<_};
-ghost use Rattle.hamming.specs.Word.{parity, dataValues, encoded};
-ghost use Rattle.hamming.specs.Inner.{syndromeOf, spread};
+ghost use Prim.Native.Nat.{_+_, _*_, _<_};
+ghost use Rattle.hamming.specs.Word.{parity, dataValues, encoded, strayBit};
+ghost use Rattle.hamming.specs.Inner.{syndromeOf, spread, oddByte};
 ghost use Rattle.hamming.specs.Answer.{encodeAnswer, checkAnswer};
 use refusal::Refusal;
 
@@ -67,6 +67,25 @@ fn odd_bytes(word: u16) -> u64
     let two = four ^ (four >> 2);
     let one = two ^ (two >> 1);
     one & EACH
+}
+
+// 1 where the byte has an odd number of ones, else 0.
+fn odd_byte(byte: u8) -> u8
+    ensures { λ r. ⌜ r ≡ oddByte byte ⌝ }
+{
+    (u8::count_ones(byte) % 2) as u8
+}
+
+// 0 where the word of these two bytes is a codeword, else 1: for each check bit, P4 first, the bits that it is over and itself, those of the
+// high byte laid over those of the low. With no branch, so that many words can go side by side.
+pub fn stray(high: u8, low: u8) -> u8
+    ensures { λ r. ⌜ r ≡ strayBit (high * 256 + low) ⌝ }
+{
+    odd_byte(low ^ high)
+        | odd_byte((low & 0xF0) ^ (high & 0x47))
+        | odd_byte((low & 0x8E) ^ (high & 0x27))
+        | odd_byte((low & 0x6D) ^ (high & 0x16))
+        | odd_byte((low & 0x5B) ^ (high & 0x0D))
 }
 
 // The chip word of the data, which is refused above 2047.

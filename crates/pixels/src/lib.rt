@@ -43,11 +43,13 @@ fn reading_at(pixels: &[u8], i: usize) -> f32
     util::i16_from_bits(util::wide(word), 16) as f32
 }
 
-// An offset as a number, rounded once to the nearest.
+// An offset as a number, rounded once to the nearest: only the sum of its halves rounds.
 fn real(offset: Offset) -> f32
     ensures { λ r. ⌜ r ≡ real offset ⌝ }
 {
-    std::num::nearest_i32_to_f32(offset)
+    let high = offset >> 16;
+    let low = offset & 0xFFFF;
+    high as f32 * 65536.0 + low as f32
 }
 
 // Pixel i's infrared number.
@@ -74,12 +76,12 @@ pub fn any_masked(mask: &[u8], base: usize) -> bool
     requires { ⌜ base + side ≤ length (now mask) ⌝ }
     ensures { λ r. ⌜ (r ≡ false → Unasked (now (mask .entry)) base side) ⌝ }
 {
+    let mut any: u8 = 0;
     for i in 0..SIDE {
-        if masked(mask, base + i) {
-            return true;
-        }
+        let k = base + i;
+        any = any | mask[k];
     }
-    false
+    any != 0
 }
 
 // The infrared numbers of the pixels from base on.

@@ -3,3 +3,4 @@ pub mod Width
 pub mod Shift
 pub mod Words
 pub mod Range
+pub mod Or

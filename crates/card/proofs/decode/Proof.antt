@@ -8,14 +8,17 @@ use Prim.Native.Nat.{ℕ, _-_, _<_}
 use native.Mathlib.Omega.{arith}
 use Rattle.lists.specs.First.{firstFrom}
 use Rattle.lists.proofs.First.{found, further, ended}
+use lib.ListN.{length}
+use Rattle.lists.proofs.Written.{length-written}
 use Rattle.lists.proofs.Fill as fill
 use Rattle.lists.proofs.Fill.{Filling}
 use Rattle.map.specs.Map.{cardWords}
 use Rattle.card.specs.Card.{dataAt, damagedAt, firstDamaged, mendingBelow}
-use Rattle.card.specs.Inner.{counted}
+use Rattle.card.specs.Inner.{counted, Clean}
 use Rattle.card.specs.declared.Mending.{Mending}
 use Rattle.card.specs.declared.Read.{Read}
 use Rattle.card.proofs.Reading.{none-counted, one-counted, count-within}
+use Rattle.card.proofs.Parts.{none-damaged, none-mended}
 use Rattle.card.proofs.decode.Statement.{statement}
 use Rattle.card.proofs.decode.Tie as tie
 
@@ -38,24 +41,40 @@ loop-holds c = record { none = refl; stored = fill.start _ _ _; mended = c .no-m
 -- the word of this turn, and what it says
 module _ (c : tie.After-read-word Inv-loop μ-loop) where
   abbrev image : List ℕ
-  image = c .before .before .before .before .before .args .image .now
+  image = c .before .before .before .before .before .before .before .args .image .now
 
   abbrev word : ℕ
-  word = c .before .before .loop .word
+  word = c .before .before .before .before .loop .word
 
   on : word < cardWords
-  on = let w = c .before .before .loop .inv .stored .within in omega arith
+  on = let w = c .before .before .before .before .loop .inv .stored .within in omega arith
 
   damage : c .read-word .result .damaged ≡ damagedAt image word
   damage = ap (λ (r : Read). r .damaged) (c .read-word .ensures)
 
+-- words that are seen to be clean at once: none is damaged or counted
+ahead : (c : tie.After-clean-ahead Inv-loop μ-loop) → Clean (c .before .before .before .before .before .args .image .now) (c .before .before .loop .word) (c .clean-ahead .result)
+ahead c = c .clean-ahead .ensures
+
 loop-again : tie.Need-loop-again Inv-loop μ-loop
 loop-again c =
+    let a = c .before .before .before in
+    let l = a .before .before .loop in
+    let p = ahead a in
+    let e = c .fill-clean .ensures .on _ (l .inv .stored .list) in
+    record {
+      none = sym (none-damaged _ _ _ p) ∙ l .inv .none;
+      stored = record { within = p .within; long = ap length e ∙ length-written _ _ _ _; list = e };
+      mended = l .inv .mended ∙ none-mended _ _ _ p;
+    }
+
+loop-again-2 : tie.Need-loop-again-2 Inv-loop μ-loop
+loop-again-2 c =
     let r = c .before .before in
-    let l = r .before .before .loop in
+    let l = r .before .before .before .before .loop in
     let e = r .read-word .ensures in
     record {
-      none = sym (further (damagedAt (image r)) (word r) cardWords (on r) (sym (damage r) ∙ c .before .if2 .left)) ∙ l .inv .none;
+      none = sym (further (damagedAt (image r)) (word r) cardWords (on r) (sym (damage r) ∙ c .before .if3 .left)) ∙ l .inv .none;
       stored = fill.one-more _ (l .inv .stored) (on r) (ap (λ (r : Read). r .value) e);
       mended =
           c .with .ensures ∙ ap (λ (m : Mending). counted m (word r) (r .read-word .result .stray)) (l .inv .mended)
@@ -66,7 +85,7 @@ loop-again c =
 with-requires : tie.Need-with-requires Inv-loop μ-loop
 with-requires c κs =
     let r = c .before in
-    let l = r .before .before .loop in
+    let l = r .before .before .before .before .loop in
     let h = on r in
     let n = count-within (image r) (word r) in
     let e = ap (λ (m : Mending). m .count) (l .inv .mended) in
@@ -82,8 +101,8 @@ returns c =
 returns-2 : tie.Need-returns-2 Inv-loop μ-loop
 returns-2 c =
     let r = c .before in
-    let l = r .before .before .loop in
-    (sym (found (damagedAt (image r)) (word r) cardWords (on r) (sym (damage r) ∙ c .if2 .taken)) ∙ l .inv .none, (l .inv .mended, l .inv .stored .list))
+    let l = r .before .before .before .before .loop in
+    (sym (found (damagedAt (image r)) (word r) cardWords (on r) (sym (damage r) ∙ c .if3 .taken)) ∙ l .inv .none, (l .inv .mended, l .inv .stored .list))
 
 pub decode-spec : {M : Type 1} → statement M
 decode-spec =
@@ -93,12 +112,17 @@ decode-spec =
     μ-loop
     (λ c κs. search needs)
     loop-holds
-    (λ c κs. let w = c .before .loop .inv .stored .within in omega arith)
-    (λ c. let w = c .before .before .before .loop .inv .stored .within in omega arith)
-    (λ c. let w = c .before .before .before .loop .inv .stored .within in omega arith)
-    with-requires
-    (λ c. let w = c .before .before .before .before .loop .inv .stored .within in omega arith)
-    (λ c. let w = c .before .before .before .before .loop .inv .stored .within in omega arith)
+    (λ c κs. let w = c .before .loop .inv .stored .within in search needs)
+    (λ c κs. (search needs, ahead (c .before .before)))
+    (λ c. let p = ahead (c .before .before .before) .within in omega arith)
+    (λ c. let p = ahead (c .before .before .before) .within in omega arith)
     loop-again
+    (λ c κs. let w = c .before .before .before .loop .inv .stored .within in omega arith)
+    (λ c. let w = on (c .before) in omega arith)
+    (λ c. let w = on (c .before) in omega arith)
+    with-requires
+    (λ c. let w = on (c .before .before) in omega arith)
+    (λ c. let w = on (c .before .before) in omega arith)
+    loop-again-2
     returns
     returns-2)

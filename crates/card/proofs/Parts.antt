@@ -1,0 +1,113 @@
+-- Words that are looked at side by side and are clean: none is damaged or counted, and their data are their lower bits.
+-- Assumes nothing.
+use Prim.Native.Nat.{ℕ, zero, suc, _+_, _-_, _≤_, _<_}
+use mathlib.Core.Path.{_≡_, refl, sym, ap, ap₂, _∙_, subst}
+use mathlib.Core.Bool.{Bool, true, false}
+use mathlib.Core.List.{List}
+use native.Mathlib.Decide.{decLe}
+use native.Mathlib.Nat.{add-zero, add-suc, add-assoc, le-refl}
+use native.Mathlib.Omega.{arith}
+use lib.Bits.{bitOr}
+use lib.Dec.{T, ltb}
+use lib.ListN.{set}
+use borrow.Author.Tests.{le-ltb, lt-ltb}
+use Rattle.lists.specs.Pick.{pick}
+use Rattle.lists.specs.First.{firstFrom}
+use Rattle.lists.specs.Written.{filled}
+use Rattle.lists.proofs.Written.{stored}
+use Rattle.lists.proofs.First.{further}
+use Rattle.lists.proofs.Every.{at}
+use Rattle.util.specs.Words.{wordAt}
+use Rattle.util.proofs.Or.{left-none, right-none}
+use Rattle.hamming.specs.Word.{dataOf, codeword, strayBit}
+use Rattle.hamming.proofs.Exactly.{clean-is}
+use Rattle.map.specs.Map.{cardWords, checked, roleOf, spans}
+use Rattle.card.specs.Card.{damagedAt, mendingBelow}
+use Rattle.card.specs.Inner.{readOf, counted, Codewords, Clean, FilledOn}
+use Rattle.card.specs.declared.Read.{Read}
+use Rattle.card.proofs.Reading.{clean, one-counted}
+
+-- from word 32 on all are checked
+right : ℕ → Bool
+right w = pick (ltb w 32) true (pick (ltb w cardWords) (checked w) true)
+
+true-of : (b : Bool) → T b → b ≡ true
+true-of true t = refl
+true-of false t = absurd t
+
+test : (w : ℕ) → w < 1024 → T (right w)
+unfolding right checked roleOf spans
+test w h = at right 10 tt w h
+
+checked-from : (w : ℕ) → 32 ≤ w → w < cardWords → checked w ≡ true
+unfolding right
+checked-from w a b = true-of (checked w) (rw (le-ltb w 32 a, lt-ltb w cardWords b) at (test w (omega arith)))
+
+module _ (image : List ℕ) (first n : ℕ) (p : Clean image first n) where
+  pub clean-word : (i : ℕ) → i < n → record { value = dataOf (wordAt image (first + i)); damaged = false; stray = false } ≡ readOf image (first + i)
+  clean-word i h =
+      let a = p .from (omega arith) in
+      let b = p .within in
+      clean image (first + i) (checked-from (first + i) (omega arith) (omega arith)) _ (clean-is _ (p .codewords .at i h))
+
+  damaged-on : (i : ℕ) → i ≤ n
+      → firstFrom (damagedAt image) first (cardWords - first) ≡ firstFrom (damagedAt image) (first + i) (cardWords - (first + i))
+  damaged-on zero h = rw (add-zero first) refl
+  damaged-on (suc i) h =
+      let b = p .within in
+      let e : first + i + 1 ≡ first + suc i = omega (arith, add-suc first i) in
+      damaged-on i (omega arith)
+      ∙ further (damagedAt image) (first + i) cardWords (omega arith) (sym (ap (λ (r : Read). r .damaged) (clean-word i (omega arith))))
+      ∙ ap (λ (k : ℕ). firstFrom (damagedAt image) k (cardWords - k)) e
+
+  pub none-damaged : firstFrom (damagedAt image) first (cardWords - first) ≡ firstFrom (damagedAt image) (first + n) (cardWords - (first + n))
+  none-damaged = damaged-on n (le-refl n)
+
+  mended-on : (i : ℕ) → i ≤ n → mendingBelow image first ≡ mendingBelow image (first + i)
+  mended-on zero h = rw (add-zero first) refl
+  mended-on (suc i) h =
+      let e : first + i + 1 ≡ first + suc i = omega (arith, add-suc first i) in
+      mended-on i (omega arith)
+      ∙ ap (λ (b : Bool). counted (mendingBelow image (first + i)) (first + i) b) (ap (λ (r : Read). r .stray) (clean-word i (omega arith)))
+      ∙ one-counted image (first + i) ∙ ap (mendingBelow image) e
+
+  pub none-mended : mendingBelow image first ≡ mendingBelow image (first + n)
+  none-mended = mended-on n (le-refl n)
+
+-- ---- looking
+
+-- of n words i were looked at, and if none was astray they are codewords
+pub record Looked (image : List ℕ) (first n stray i : ℕ) : Type 0 where
+  pub within : i ≤ n
+  pub clean : stray ≡ 0 → Codewords image first i
+
+code-of : (b : Bool) → pick {A = ℕ} b 0 1 ≡ 0 → b ≡ true
+code-of true e = refl
+code-of false e = absurd (let p : ⊥ = omega arith in p)
+
+pub one-looked : {image : List ℕ} {first n stray i : ℕ} (b : ℕ) → Looked image first n stray i → i < n → b ≡ strayBit (wordAt image (first + i))
+    → Looked image first n (bitOr stray b) (i + 1)
+one-looked {image = image} {first = first} {stray = stray} {i = i} b r h e = record {
+  within = omega arith;
+  clean = λ z. record {
+    at = λ k l. elim (decLe i k) [
+      | yes g ↦
+          let q : i ≡ k = omega arith in
+          subst (λ (j : ℕ). codeword (wordAt image (first + j)) ≡ true) q (code-of (codeword (wordAt image (first + i))) (sym e ∙ right-none stray b z))
+      | no g ↦ r .clean (left-none stray b z) .at k (omega arith)
+    ];
+  };
+}
+
+-- ---- filling
+
+module _ (f : ℕ → ℕ) (w : ℕ) where
+  pub start : (d : List ℕ) → FilledOn f w 0 d d
+  start d = record { on = λ d₀ e. e ∙ ap (λ (n : ℕ). filled f n d₀) (sym (add-zero w)) }
+
+  pub one-filled : {n : ℕ} {d d′ : List ℕ} (v : ℕ) → FilledOn f w n d d′ → v ≡ f (w + n) → FilledOn f w (n + 1) d (set d′ (w + n) v)
+  one-filled {n = n} {d′ = d′} v r e = record {
+    on = λ d₀ h.
+        ap₂ (λ (l : List ℕ) (x : ℕ). set l (w + n) x) (r .on d₀ h) e ∙ sym (stored (λ (k : ℕ). true) f (w + n) d₀ refl)
+        ∙ ap (λ (k : ℕ). filled f k d₀) (add-assoc w n 1);
+  }
