@@ -1,4 +1,4 @@
--- Means and Calls are the laws that callers cite; the others lead to them and to the code.
+-- Ends proves what specs/Laws states; Means, Calls and Whole lead to it, and the others to them and to the code.
 mod Fold
 mod Loading
 mod Local

@@ -2,7 +2,7 @@
 use Prim.Native.Nat.{ℕ, _+_, _*_, _<_, _≤_}
 use mathlib.Core.Path.{_≡_, refl, sym, ap, _∙_}
 use mathlib.Core.Bool.{Bool, true, false, true≢false}
-use mathlib.Core.List.{List, [], _∷_, _++_, append-nil, append-assoc}
+use mathlib.Core.List.{List, [], _∷_, _++_, map, append-nil, append-assoc}
 use native.Mathlib.Omega.{arith}
 use lib.Dec.{ltb}
 use lib.ListN.{length, take, drop, length-append, take-append-drop}
@@ -19,7 +19,8 @@ use Rattle.card.specs.Card.{damagedAt, firstDamaged}
 use Rattle.eeprom.specs.Load.{Tables, shortest, loadTests, loadVerdict, Loads}
 use Rattle.reader.specs.declared.Answer.{Answer}
 use Rattle.reader.specs.Bytes.{Held, spoiltAt, firstSpoilt, stateOf}
-use Rattle.reader.specs.Calls.{loadedOf, lentAfter, more, ends, Judged, judged, After, Call, State, calling, afterCalls, begun, brings, takenOf, judgedOf, heard, saidBy}
+use Rattle.reader.specs.Calls.{loadedOf, lentAfter, more, ends, Judged, judged, After, Call, Event, took, State, calling, afterCalls, begun, brings, takenOf, judgedOf, heard, saidBy}
+use Rattle.reader.specs.Laws.{bytesOf}
 use Rattle.reader.proofs.Loading.{loads}
 use Rattle.reader.proofs.Local.{word-more, damaged-more}
 use Rattle.reader.proofs.Says.{Says, sound, spoilt}
@@ -99,61 +100,61 @@ module _ (l : List ℕ) (range : ℕ) (t : Tables) (short : length l < imageByte
 
 module _ (lent : List ℕ) (card : length lent ≡ imageBytes) where
   -- before the card's last byte the answer is what the bytes say, whatever the cuts, ranges and tables
-  short-by : (calls : List Call) (m : List ℕ) (range : ℕ) (t : Tables) → length (m ++ takenOf calls) < imageBytes
+  short-by : (calls : List Event) (m : List ℕ) (range : ℕ) (t : Tables) → length (m ++ takenOf calls) < imageBytes
       → (Wanting m → heard m calls ≡ judgedOf (m ++ takenOf calls) range t .answer)
       → (s : ℕ) (u : Tables) (b : Bool) → judgedOf m s u .answer .more ≡ b → pick b (heard m calls) (judgedOf m s u .answer) ≡ judgedOf (m ++ takenOf calls) range t .answer
   short-by calls m range t h rest s u true e = rest (wanting m s u e)
   short-by calls m range t h rest s u false e =
       damage-stays lent m (takenOf calls) (stateOf lent m) (says lent m (omega arith)) (damaged m s u (let n = length-append m (takenOf calls) in omega arith) e) s range u t
 
-  short-from : (calls : List Call) (l : List ℕ) (range : ℕ) (t : Tables) → Wanting l → length (l ++ takenOf calls) < imageBytes → heard l calls ≡ judgedOf (l ++ takenOf calls) range t .answer
+  short-from : (calls : List Call) (l : List ℕ) (range : ℕ) (t : Tables) → Wanting l → length (l ++ bytesOf calls) < imageBytes → heard l (map took calls) ≡ judgedOf (l ++ bytesOf calls) range t .answer
   unfolding takenOf heard
   short-from [] l range t w h = rw (append-nil l, wants l range t w) refl
   short-from (c ∷ calls) l range t w h =
       let m = l ++ brings c in
-      let a = append-assoc l (brings c) (takenOf calls) in
-      let k : length (m ++ takenOf calls) < imageBytes = rw a h in
-      short-by calls m range t k (λ v. short-from calls m range t v k) (c .range) (c .lent) (judgedOf m (c .range) (c .lent) .answer .more) refl
+      let a = append-assoc l (brings c) (bytesOf calls) in
+      let k : length (m ++ bytesOf calls) < imageBytes = rw a h in
+      short-by (map took calls) m range t k (λ v. short-from calls m range t v k) (c .range) (c .lent) (judgedOf m (c .range) (c .lent) .answer .more) refl
       ∙ ap (λ (b : List ℕ). judgedOf b range t .answer) a
 
-  pub heard-short : (calls : List Call) (range : ℕ) (t : Tables) → length (takenOf calls) < imageBytes → heard [] calls ≡ judgedOf (takenOf calls) range t .answer
+  pub heard-short : (calls : List Call) (range : ℕ) (t : Tables) → length (bytesOf calls) < imageBytes → heard [] (map took calls) ≡ judgedOf (bytesOf calls) range t .answer
   heard-short calls range t h = short-from calls [] range t none-want h
 
   -- ---- the call that brings a card's last byte
 
-  module _ (calls : List Call) (c : Call) (before : length (takenOf calls) < imageBytes) (long : imageBytes ≤ length (takenOf calls ++ c .piece))
+  module _ (calls : List Call) (c : Call) (before : length (bytesOf calls) < imageBytes) (long : imageBytes ≤ length (bytesOf calls ++ c .piece))
       (wide : framePixels ≤ shortest (c .lent)) where
     abbrev all : List ℕ
-    all = takenOf calls ++ c .piece
+    all = bytesOf calls ++ c .piece
 
     abbrev by : Judged
-    by = judgedOf (takenOf calls) (c .range) (c .lent)
+    by = judgedOf (bytesOf calls) (c .range) (c .lent)
 
-    so-far : saidBy lent calls ≡ stateFor lent (takenOf calls) (by .answer)
-    so-far = ap (λ (a : Answer). stateFor lent (takenOf calls) a) (heard-short calls (c .range) (c .lent) before)
+    so-far : saidBy lent (map took calls) ≡ stateFor lent (bytesOf calls) (by .answer)
+    so-far = ap (λ (a : Answer). stateFor lent (bytesOf calls) a) (heard-short calls (c .range) (c .lent) before)
 
     -- it answers and leaves what all the bytes say; so does a repeated damaged word
-    last-by : (b : Bool) → by .answer .more ≡ b → (calling (stateFor lent (takenOf calls) (by .answer)) c .taken .answer ≡ judgedOf all (c .range) (c .lent) .answer)
-        × (calling (stateFor lent (takenOf calls) (by .answer)) c .lent ≡ judgedOf all (c .range) (c .lent) .lent)
+    last-by : (b : Bool) → by .answer .more ≡ b → (calling (stateFor lent (bytesOf calls) (by .answer)) c .taken .answer ≡ judgedOf all (c .range) (c .lent) .answer)
+        × (calling (stateFor lent (bytesOf calls) (by .answer)) c .lent ≡ judgedOf all (c .range) (c .lent) .lent)
     last-by true e =
-        let w = wanting (takenOf calls) (c .range) (c .lent) e in
-        let a = ap (λ (j : Judged). calling (stateFor lent (takenOf calls) (j .answer)) c) (wants (takenOf calls) (c .range) (c .lent) w) ∙ taken-call lent card (takenOf calls) (w .sound-words) c wide in
+        let w = wanting (bytesOf calls) (c .range) (c .lent) e in
+        let a = ap (λ (j : Judged). calling (stateFor lent (bytesOf calls) (j .answer)) c) (wants (bytesOf calls) (c .range) (c .lent) w) ∙ taken-call lent card (bytesOf calls) w c wide in
         (ap (λ (k : After). k .taken .answer) a, ap (λ (k : After). k .lent) a)
     last-by false e =
-        let a = ended-call (stateFor lent (takenOf calls) (by .answer)) c e in
-        let d = damaged (takenOf calls) (c .range) (c .lent) before e in
-        let s = says lent (takenOf calls) (omega arith) in (
-          ap (λ (k : After). k .taken .answer) a ∙ damage-stays lent (takenOf calls) (c .piece) (stateOf lent (takenOf calls)) s d (c .range) (c .range) (c .lent) (c .lent),
-          ap (λ (k : After). k .lent) a ∙ sym (damage-leaves lent (takenOf calls) (c .piece) (stateOf lent (takenOf calls)) s d (c .range) (c .lent)),
+        let a = ended-call (stateFor lent (bytesOf calls) (by .answer)) c e in
+        let d = damaged (bytesOf calls) (c .range) (c .lent) before e in
+        let s = says lent (bytesOf calls) (omega arith) in (
+          ap (λ (k : After). k .taken .answer) a ∙ damage-stays lent (bytesOf calls) (c .piece) (stateOf lent (bytesOf calls)) s d (c .range) (c .range) (c .lent) (c .lent),
+          ap (λ (k : After). k .lent) a ∙ sym (damage-leaves lent (bytesOf calls) (c .piece) (stateOf lent (bytesOf calls)) s d (c .range) (c .lent)),
         )
 
     -- which is what a load of the card promises: verdict, record and tables
-    pub whole-card : (calling (afterCalls (begun lent) calls) c .taken .answer .more ≡ false)
-        × Loads (take imageBytes all) (c .range) (c .lent) (calling (afterCalls (begun lent) calls) c .lent) (calling (afterCalls (begun lent) calls) c .taken .answer .loaded)
+    pub whole-card : (calling (afterCalls (begun lent) (map took calls)) c .taken .answer .more ≡ false)
+        × Loads (take imageBytes all) (c .range) (c .lent) (calling (afterCalls (begun lent) (map took calls)) c .lent) (calling (afterCalls (begun lent) (map took calls)) c .taken .answer .loaded)
     whole-card =
         let a = last-by (by .answer .more) refl in
         let w = whole all long (c .range) (c .lent) wide in
-        let s = calls-mean lent card calls ∙ so-far in
+        let s = calls-mean lent card (map took calls) ∙ so-far in
         let e = ap (λ (k : State). calling k c .taken .answer) s ∙ a .0 ∙ ap (λ (j : Judged). j .answer) w in
         let f = ap (λ (k : State). calling k c .lent) s ∙ a .1 ∙ ap (λ (j : Judged). j .lent) w in
         (ap (λ (x : Answer). x .more) e, rw (e, f) (loads (take imageBytes all) (c .range) (c .lent)))

@@ -2,7 +2,7 @@
 use Prim.Native.Nat.{ℕ}
 use mathlib.Core.Bool.{true, false}
 use mathlib.Core.List.{List, [], _∷_, _++_, foldl}
-use lib.Dec.{ltb}
+use lib.Dec.{eqb, ltb}
 use lib.ListN.{length, take}
 use Rattle.lists.specs.Pick.{pick}
 use Rattle.refusal.specs.declared.Refusal.{Refusal}
@@ -81,11 +81,12 @@ answering h range t =
     let j = judges h range t in
     after (h .image) (j .lent) (record { reading = record { count = h .kept .count; answer = j .answer }; answer = j .answer })
 
--- a piece for a reading that has not ended: short tables stop the call; else it is taken
+-- a piece for a reading that has not ended: short tables stop the call, and an empty piece changes nothing; else it is taken
 unfoldable pub takesOn : List ℕ → Reading → List ℕ → ℕ → Tables → After
 takesOn image reading piece range t =
     pick (ltb (shortest t) framePixels) (after image t (record { reading = reading; answer = refused ShortTable }))
-    (answering (fed (held image (record { count = reading .count; damaged = cardWords })) piece) range t)
+    (pick (eqb (length piece) 0) (after image t (record { reading = reading; answer = reading .answer }))
+    (answering (fed (held image (record { count = reading .count; damaged = cardWords })) piece) range t))
 
 -- once ended, the answer again and nothing else
 unfoldable pub takes : List ℕ → Reading → List ℕ → ℕ → Tables → After
@@ -93,30 +94,41 @@ takes image reading piece range t =
     pick (reading .answer .more) (takesOn image reading piece range t)
     (after image t (record { reading = reading; answer = reading .answer }))
 
--- no more bytes: a reading that has not ended ends, with the count of its bytes
+-- no more bytes: a reading of fewer than 1,664 that has not ended ends, with the count of its bytes
 unfoldable pub finishes : Reading → Reading
-finishes reading = pick (reading .answer .more) (record { count = reading .count; answer = refused (ShortImage (reading .count)) }) reading
+finishes reading =
+    pick (reading .answer .more)
+    (pick (ltb (reading .count) imageBytes) (record { count = reading .count; answer = refused (ShortImage (reading .count)) }) reading)
+    reading
 
--- ---- any calls, each with a piece, a range and tables of its own
+-- ---- any calls
 
+-- of `take`: each has a piece, a range and tables of its own
 pub record Call : Type 0 where
   pub piece : List ℕ
   pub range : ℕ
   pub lent : Tables
+
+-- and of `finished`
+pub data Event : Type 0 where
+  took : Call → Event
+  finished : Event
 
 -- the lent array and the reading
 pub record State : Type 0 where
   pub image : List ℕ
   pub reading : Reading
 
--- what a call does to a state
+-- what `take` does to a state
 abbrev pub calling : State → Call → After
 calling s c = takes (s .image) (s .reading) (c .piece) (c .range) (c .lent)
 
-abbrev pub leaves : State → Call → State
-leaves s c = record { image = calling s c .image; reading = calling s c .taken .reading }
+-- the state that a call leaves
+abbrev pub leaves : State → Event → State
+leaves s (took c) = record { image = calling s c .image; reading = calling s c .taken .reading }
+leaves s finished = record { image = s .image; reading = finishes (s .reading) }
 
-abbrev pub afterCalls : State → List Call → State
+abbrev pub afterCalls : State → List Event → State
 afterCalls s calls = foldl leaves s calls
 
 abbrev pub begun : List ℕ → State
@@ -128,9 +140,11 @@ begun lent = record { image = lent; reading = start }
 abbrev pub brings : Call → List ℕ
 brings c = pick (ltb (shortest (c .lent)) framePixels) [] (c .piece)
 
-unfoldable pub takenOf : List Call → List ℕ
+-- the bytes that calls bring, up to "finished"
+unfoldable pub takenOf : List Event → List ℕ
 takenOf [] = []
-takenOf (c ∷ calls) = brings c ++ takenOf calls
+takenOf (took c ∷ calls) = brings c ++ takenOf calls
+takenOf (finished ∷ calls) = []
 
 -- bytes that end with a call of this range and these tables: a damaged word, more wanted, or the load of the first 1,664
 unfoldable pub judgedOf : List ℕ → ℕ → Tables → Judged
@@ -139,15 +153,16 @@ judgedOf bytes range t =
     (pick (ltb (length bytes) imageBytes) (judged more t)
     (judged (ends (loadedOf (take imageBytes bytes) range t)) (lentAfter (take imageBytes bytes) range t)))
 
--- more bytes, by calls: the first that ends the reading gives its answer
-unfoldable pub heard : List ℕ → List Call → Answer
+-- more bytes, by calls: the first that ends the reading gives its answer; "finished" ends it with the bytes so far
+unfoldable pub heard : List ℕ → List Event → Answer
 heard bytes [] = more
-heard bytes (c ∷ calls) =
+heard bytes (took c ∷ calls) =
     let here = judgedOf (bytes ++ brings c) (c .range) (c .lent) .answer in
     pick (here .more) (heard (bytes ++ brings c) calls) here
+heard bytes (finished ∷ calls) = refused (ShortImage (length bytes))
 
 -- the state after any calls
-abbrev pub saidBy : List ℕ → List Call → State
+abbrev pub saidBy : List ℕ → List Event → State
 saidBy lent calls = record {
   image = stateOf lent (takenOf calls) .image;
   reading = record { count = keptOf (takenOf calls); answer = heard [] calls };

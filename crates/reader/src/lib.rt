@@ -159,7 +159,7 @@ fn judge(
     }
 }
 
-// A piece for a reading that has not ended: short tables are refused, and it is not taken.
+// A piece for a reading that has not ended: short tables are refused, and it is not taken. An empty piece changes nothing.
 fn take_on(
     image: &mut Image,
     reading: Reading,
@@ -184,6 +184,13 @@ fn take_on(
     if table < PIXELS {
         let answer = refuse(Refusal::ShortTable);
         return Taken { reading, answer };
+    }
+    if piece.len() == 0 {
+        let so_far = reading.answer;
+        return Taken {
+            reading,
+            answer: so_far,
+        };
     }
     let kept = feed(image, reading.count, piece);
     let said = judge(
@@ -238,17 +245,20 @@ pub fn take(
     Taken { reading, answer }
 }
 
-// No more bytes come: a reading that has not ended ends, with refusal 1 and the bytes so far.
+// No more bytes come: a reading that has not ended ends, with refusal 1 and the bytes so far. These are below 1,664 in every reading that calls
+// have made; any other is left as it is.
 pub fn finished(reading: Reading) -> Reading
     ensures { λ r. ⌜ r ≡ finishes reading ⌝ }
 {
     let told = reading.answer;
     let count = reading.count;
     if told.more {
-        return Reading {
-            count,
-            answer: refuse(Refusal::ShortImage { length: count }),
-        };
+        if count < IMAGE_BYTES {
+            return Reading {
+                count,
+                answer: refuse(Refusal::ShortImage { length: count }),
+            };
+        }
     }
     reading
 }

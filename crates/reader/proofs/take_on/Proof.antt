@@ -1,9 +1,10 @@
--- `reader::take_on` meets its contract: short tables stop it, and else the bytes are taken and judged. Assumes nothing.
+-- `reader::take_on` meets its contract: short tables stop it, an empty piece changes nothing, and else the bytes are taken and judged. Assumes nothing.
 use borrow.Author.Needs.{needs}
-use borrow.Author.Tests.{lt-ltb, le-ltb}
+use borrow.Author.Tests.{lt-ltb, le-ltb, eq-eqb, ne-eqb}
 use mathlib.Core.Path.{_≡_, refl, ap, _∙_}
 use mathlib.Core.List.{List}
 use Prim.Native.Nat.{ℕ, _<_, _≤_}
+use lib.ListN.{length}
 use Rattle.map.specs.Map.{cardWords, framePixels}
 use Rattle.refusal.specs.declared.Refusal.the-variants.{ShortTable}
 use Rattle.eeprom.specs.Load.{Tables, tables, shortest}
@@ -21,11 +22,15 @@ module _ (image : List ℕ) (reading : Reading) (piece : List ℕ) (range : ℕ)
   unfolding takesOn
   short n e l = rw (lt-ltb _ _ (rw e at l)) refl
 
-  taken : (n : ℕ) → n ≡ shortest t → framePixels ≤ n → {image′ : List ℕ} {k : Kept} {a : Answer} {u : Tables}
+  nothing : (n : ℕ) → n ≡ shortest t → framePixels ≤ n → length piece ≡ 0 → after image t (record { reading = reading; answer = reading .answer }) ≡ takesOn image reading piece range t
+  unfolding takesOn
+  nothing n e l z = rw (le-ltb _ _ (rw e at l), eq-eqb _ 0 z) refl
+
+  taken : (n : ℕ) → n ≡ shortest t → framePixels ≤ n → (length piece ≡ 0 → ⊥) → {image′ : List ℕ} {k : Kept} {a : Answer} {u : Tables}
       → held image′ k ≡ fed (held image (record { count = reading .count; damaged = cardWords })) piece → judged a u ≡ judges (held image′ k) range t
       → after image′ u (record { reading = record { count = k .count; answer = a }; answer = a }) ≡ takesOn image reading piece range t
   unfolding takesOn
-  taken n e l f j = rw (le-ltb _ _ (rw e at l), ← f, ← j) refl
+  taken n e l z f j = rw (le-ltb _ _ (rw e at l), ne-eqb _ 0 z, ← f, ← j) refl
 
 module _ (s : tie.Start) where
   abbrev image : List ℕ
@@ -45,11 +50,18 @@ returns c =
 
 returns-2 : tie.Need-returns-2
 returns-2 c =
+    let e = c .before .before in
+    let s = e .before .before .before .before .before .before in
+    nothing (image s) (s .args .reading) (piece s) (s .args .basic-range) (lent s) _ (e .before .shortest-of .ensures) (e .if1 .left) (c .before .if2 .taken)
+
+returns-3 : tie.Need-returns-3
+returns-3 c =
     let j = c .before .before .before .before .before .before .before .before in
     let f = j .before .before .before .before .before .before .before in
-    let e = f .before .before in
+    let z = f .before .before in
+    let e = z .before in
     let s = e .before .before .before .before .before .before in
-    taken (image s) (s .args .reading) (piece s) (s .args .basic-range) (lent s) _ (e .before .shortest-of .ensures) (e .if1 .left) (f .feed .ensures) (j .judge .ensures)
+    taken (image s) (s .args .reading) (piece s) (s .args .basic-range) (lent s) _ (e .before .shortest-of .ensures) (e .if1 .left) (z .if2 .left) (f .feed .ensures) (j .judge .ensures)
 
 pub take-on-spec : {M : Type 1} → statement M
 take-on-spec =
@@ -58,6 +70,7 @@ take-on-spec =
     (λ c κs. search needs)
     (λ c κs. search needs)
     returns
+    returns-2
     (λ c κs. search needs)
     (λ c κs. search needs)
     (λ c. search needs)
@@ -65,4 +78,4 @@ take-on-spec =
     (λ c. search needs)
     (λ c. search needs)
     (λ c. search needs)
-    returns-2)
+    returns-3)
