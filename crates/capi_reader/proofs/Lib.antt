@@ -1,2 +1,3 @@
--- Single is the law of the single answer.
+-- Single is the law of the single answer, Carried what specs/Laws states.
 pub mod Single
+pub mod Carried

@@ -1,2 +1,3 @@
--- What crosses to C.
+-- What crosses to C, and what any of C's calls come to.
 pub mod Border
+pub mod Laws

@@ -18,7 +18,7 @@ use Rattle.card.specs.Card.{dataAt}
 use Rattle.eeprom.specs.Load.{Tables, shortest, filledTables}
 use Rattle.reader.specs.declared.Answer.{Answer}
 use Rattle.reader.specs.declared.Reading.{Reading}
-use Rattle.reader.specs.Bytes.{Held, held, fed, keptOf, stateOf}
+use Rattle.reader.specs.Bytes.{Held, held, fed}
 use Rattle.reader.specs.Calls.{loadedOf, lentAfter, more, refused, judges, takesOn, takes, finishes, Call, Event, took, finished, State, calling, afterCalls, begun, brings, takenOf, judgedOf, heard}
 use Rattle.reader.specs.Laws.{offers, offered, Reads, AnyState}
 use Rattle.reader.proofs.Calls.{Wanting, ended-call, short-call, empty-call, finished-late, wanting, none-want, calls-mean}
