@@ -34,17 +34,17 @@ quotient (fin true m d) s n e v = subst (λ (t : Bool). (fin true m d ⊘ fin fa
 quotient (fin false m d) s n e v = subst (λ (t : Bool). (fin false m d ⊘ fin false 1 (pos e)) ≡ round binary32 t n (2 ^ e)) (v .0) (same false (m * up d) n e (down d) (down-pos d) (v .1))
 
 -- and that fraction has no more digits than there is room for
-fraction : (s : Bool) (n e : ℕ) → n < 2 ^ 24 → e ≤ 100 → HasValue (round binary32 s n (2 ^ e)) s n (2 ^ e)
+pub fraction : (s : Bool) (n e : ℕ) → n < 2 ^ 24 → e < 128 → HasValue (round binary32 s n (2 ^ e)) s n (2 ^ e)
 fraction s n e h l =
     round-exact binary32 s n (2 ^ e) n (149 - e) (pow-pos e) h
     (lt-of-lt-of-le (shl-lt 24 (149 - e) h) (pow-mono {i = 24 + (149 - e)} {j = 277} (omega arith)))
     (ap (λ (k : ℕ). n * k) (ap (λ (k : ℕ). 2 ^ k) (let z : 149 ≡ 149 - e + e = omega arith in z) ∙ pow-add 2 (149 - e) e) ∙ sym (mul-assoc n (2 ^ (149 - e)) (2 ^ e)))
 
-divided : (x : Float) (s : Bool) (n e : ℕ) → HasValue x s n 1 → n < 2 ^ 24 → e ≤ 100 → HasValue (x ⊘ powerOfTwo e) s n (2 ^ e)
+pub divided : (x : Float) (s : Bool) (n e : ℕ) → HasValue x s n 1 → n < 2 ^ 24 → e < 128 → HasValue (x ⊘ powerOfTwo e) s n (2 ^ e)
 divided x s n e v h l =
-    subst (λ (y : Float). HasValue y s n (2 ^ e)) (sym (ap (λ (p : Float). x ⊘ p) (power-below e (omega arith)) ∙ quotient x s n e v)) (fraction s n e h l)
+    subst (λ (y : Float). HasValue y s n (2 ^ e)) (sym (ap (λ (p : Float). x ⊘ p) (power-below e l) ∙ quotient x s n e v)) (fraction s n e h l)
 
 pub over-exact : (z : ℤ) (e : ℕ) → mag z < 2 ^ 23 → e ≤ 100 → Exactly (over z e) z e
 unfolding ofInt
-over-exact (pos n) e h l = divided (round binary32 false n 1) false n e (round-whole binary32 false n (omega arith)) (omega arith) l
-over-exact (negsuc n) e h l = divided (round binary32 true (suc n) 1) true (suc n) e (round-whole binary32 true (suc n) (omega arith)) (omega arith) l
+over-exact (pos n) e h l = divided (round binary32 false n 1) false n e (round-whole binary32 false n (omega arith)) (omega arith) (omega arith)
+over-exact (negsuc n) e h l = divided (round binary32 true (suc n) 1) true (suc n) e (round-whole binary32 true (suc n) (omega arith)) (omega arith) (omega arith)

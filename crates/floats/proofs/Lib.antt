@@ -3,3 +3,5 @@ pub mod Nan
 pub mod Power
 pub mod Constants
 pub mod Exact
+pub mod Bound
+pub mod Ratio
