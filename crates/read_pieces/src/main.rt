@@ -1,7 +1,7 @@
 // Reads cards from standard input in pieces, as a bus hands them over, and writes the board's lines for each card.
 // A piece is its size, two bytes with the upper one first, and then so many bytes. In place of a size 0xFFFF says that the card is finished, and the next
 // one begins; 0xFFFE asks how far it is: a line `kept` has how many bytes are kept and, once the reading has ended, its answer as `load` has it.
-// Where the input ends a piece has the bytes that came, and a card that has begun is finished. Where reading fails standard error has `failed`.
+// Where the input ends a piece has the bytes that came, and a card that has begun is finished. Where reading or writing fails standard error has `failed`.
 ghost use Prim.Native.Nat.{_≤_};
 ghost use lib.ListN.{length};
 use board_lines::BASIC_RANGE;
@@ -20,19 +20,21 @@ const FINISHED: usize = 0xFFFF;
 // The input has ended.
 const ENDED: usize = 0x10000;
 
-// A card on its way, whether anything of it came, and how many lines were written of it.
+// A card on its way, whether anything of it came, how many lines were written of it, and whether all lines so far were.
 struct Arrival {
     reading: Reading,
     begun: bool,
     lines: u64,
+    written: bool,
 }
 
-fn next_card() -> Arrival {
+fn next_card(written: bool) -> Arrival {
     let reading = reader::new();
     Arrival {
         reading,
         begun: false,
         lines: 0,
+        written,
     }
 }
 
@@ -78,23 +80,21 @@ fn take_next(image: &mut Image, reading: Reading, room: &mut [u8]) -> Reading {
     take(image, reading, &room[..n])
 }
 
-fn kept_line(reading: Reading) {
-    put(b"kept");
-    tab_number(reading.count as u64);
+// False where writing failed, as for `finish`.
+fn kept_line(reading: Reading) -> bool {
     let answer = reading.answer;
     let loaded = answer.loaded;
-    if !answer.more {
-        board_lines::answer(loaded);
-    }
-    put(b"\n");
+    put(b"kept")
+        && tab_number(reading.count as u64)
+        && (answer.more || board_lines::answer(loaded))
+        && put(b"\n")
 }
 
-fn finish(arrival: Arrival) {
+fn finish(arrival: Arrival) -> bool {
     let reading = reader::finished(arrival.reading);
     let answer = reading.answer;
     let loaded = answer.loaded;
-    board_lines::load_line(loaded);
-    board_lines::end_line(one_more(arrival.lines));
+    board_lines::load_line(loaded) && board_lines::end_line(one_more(arrival.lines))
 }
 
 // Does what the size says, and gives the card after it.
@@ -102,17 +102,16 @@ fn step(image: &mut Image, buffer: &mut [u8], arrival: Arrival, size: usize) -> 
     requires { ⌜ size ≤ length (now buffer) ⌝ }
 {
     if size == FINISHED {
-        finish(arrival);
-        return next_card();
+        return next_card(finish(arrival));
     }
     let reading = arrival.reading;
     let lines = arrival.lines;
     if size == ASKED {
-        kept_line(reading);
         return Arrival {
             reading,
             begun: true,
             lines: one_more(lines),
+            written: kept_line(reading),
         };
     }
     let after = take_next(image, reading, &mut buffer[..size]);
@@ -120,29 +119,34 @@ fn step(image: &mut Image, buffer: &mut [u8], arrival: Arrival, size: usize) -> 
         reading: after,
         begun: true,
         lines,
+        written: true,
     }
 }
 
-// At most so many pieces, and what stands in the place of one.
-fn run(most: u64) {
+// At most so many pieces, and what stands in the place of one, until writing fails; whether it did not.
+fn run(most: u64) -> bool {
     let mut image = [0u8; IMAGE_BYTES];
     let mut buffer = io::large_buffer();
-    let mut arrival = next_card();
+    let mut arrival = next_card(true);
     for _ in 0..most {
         let size = next_size();
         if size == ENDED {
             break;
         }
         arrival = step(&mut image, &mut buffer, arrival, size);
+        if !arrival.written {
+            return false;
+        }
     }
     if arrival.begun {
-        finish(arrival);
+        return finish(arrival);
     }
+    true
 }
 
 fn main() {
-    run(0xFFFFFFFFFFFFFFFF);
-    if !console::ended() {
+    let written = run(0xFFFFFFFFFFFFFFFF);
+    if !(written && console::ended()) {
         console::failed();
     }
 }
