@@ -236,7 +236,7 @@ def scrub(image):
 
 # ---- A card in pieces
 
-def heard(so_far):
+def heard(so_far, basic=BASIC):
     """Document 02, CR 5: of the bytes so far, how many are kept, and the answer: number, place, value and how many words were mended; None while
     more are wanted. A word is whole with its second byte. Once there is an answer, more bytes leave both as they are."""
     so_far = so_far[:BYTES]
@@ -246,9 +246,5 @@ def heard(so_far):
             return 2 * k + 2, (3, k, word, 0)
     if len(so_far) < BYTES:
         return len(so_far), None
-    return BYTES, verdict(so_far) + mending(so_far)[:1]
-
-
-def heard_at_end(so_far):
-    """What the reader answers when it hears that no more bytes come."""
-    return heard(so_far)[1] or (1, len(so_far), 0, 0)
+    answer = verdict(so_far, basic=basic)
+    return BYTES, answer + ((0,) if answer[0] else mending(so_far)[:1])

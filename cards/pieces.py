@@ -1,4 +1,5 @@
-"""The stream of pieces that the program read_pieces takes. A card is a list of pieces, with ASK where the program is asked how far it is."""
+"""The stream of pieces that the program read_pieces takes. A card is a list of pieces, with ASK where the program is asked how far it is, and a pair of
+the basic range and the tables' length where it is told these."""
 import itertools
 
 ASK = "ask"
@@ -18,8 +19,16 @@ def cut(card, sizes):
             return pieces
 
 
+def written(piece):
+    if piece == ASK:
+        return b"\xFF\xFE"
+    if isinstance(piece, tuple):
+        return b"\xFF\xFD" + bytes(piece)
+    return len(piece).to_bytes(2, "big") + piece
+
+
 def unfinished(pieces):
-    return b"".join(b"\xFF\xFE" if piece == ASK else len(piece).to_bytes(2, "big") + piece for piece in pieces)
+    return b"".join(map(written, pieces))
 
 
 def stream(pieces):
