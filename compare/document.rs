@@ -244,6 +244,27 @@ pub fn ranged(f: &Frame, destination: usize) -> Verdict {
     }
 }
 
+// v before the gradient, of a reading with these numbers; the offset enters as f32, to nearest, ties to even, which is what `as` does.
+fn plain(f: &Frame, t_a: f32, reading: i16, offset: i32, k_v: f32, k_ta: f32) -> f32 {
+    let r = &f.record;
+    let delta = (i32::from(f.ram.v_dd_pixel) - i32::from(r.v_dd_25)) as f32 / f32::from(r.k_v_dd);
+    let supply = delta * f.resolution_correction + f.v_dd_0;
+    let gain = r.gain / f32::from(f.ram.gain);
+    ((f32::from(reading) * gain + 0.0) - (offset as f32 * (1.0 + k_ta * (t_a - 25.0))) * (1.0 + k_v * (supply - 3.3))) / f.emissivity
+}
+
+/// A pixel's infrared number, for offsets that the crate can't hold.
+pub fn infrared_number(f: &Frame, t_a: f32, i: usize) -> f32 {
+    let reading = i16::from_be_bytes([f.pixels[2 * i], f.pixels[2 * i + 1]]);
+    let offset = f.tables.offsets[usize::from(f.subpage != 0)][i];
+    let v = plain(f, t_a, reading, offset, f.tables.k_v[i], f.tables.k_ta[i]);
+    let r = &f.record;
+    if r.has_gradient == 0 {
+        return v;
+    }
+    v - r.gradient * plain(f, t_a, f.ram.compensation_pixel, i32::from(r.offset_reference_cp), r.k_v_cp, r.k_ta_cp)
+}
+
 fn fourth(x: f32) -> f32 {
     (x * x) * (x * x)
 }

@@ -345,6 +345,56 @@ fn one(tally: &mut Tally, powf: &mut [Powf; 2], n: &mut Numbers, label: &str) {
     if n.one_in(3) {
         ranged(tally, n, label, &f, &before);
     }
+    if n.one_in(4) {
+        wide(tally, n, label, &f, &before);
+    }
+}
+
+// Offsets of scales 15 to 20, which the crate can't hold: t_a is the crate's, infrared numbers are document.rs's, and temperatures the rooted crate's of those.
+fn wide(tally: &mut Tally, n: &mut Numbers, label: &str, f: &Frame, before: &[u32]) {
+    let mut f = f.clone();
+    let (scale, average) = (15 + n.below(6), i32::from(n.word()));
+    for slot in f.tables.offsets.iter_mut().flatten() {
+        *slot = n.between(-1024, 1023) * (1 << scale) + average;
+    }
+    let mut narrow = f.clone();
+    for slot in narrow.tables.offsets.iter_mut().flatten() {
+        *slot = 0;
+    }
+    let asked = |i: &usize| f.mask[*i] != 0;
+    let rounded = |offset: &i32| *offset as f32 as i64 != i64::from(*offset);
+    let verdict = document::infrared(&f, before.len());
+    let put = |t_a: f32, destination: &mut [f32]| {
+        if verdict.0 == 0 {
+            for i in (0..192).filter(asked) {
+                destination[i] = document::infrared_number(&f, t_a, i);
+            }
+        }
+        t_a
+    };
+    tally.count(&format!("frames with offsets of scale {scale}"));
+    if verdict.0 == 0 {
+        let offsets = &f.tables.offsets[usize::from(f.subpage != 0)];
+        tally.add("pixels whose offset is no f32", (0..192).filter(asked).filter(|i| rounded(&offsets[*i])).count() as u64);
+    }
+
+    let mut after = before.to_vec();
+    let answer = library::raw_pixels_to_ir_data(&f, &mut after);
+    let said = of_call(before, |destination| {
+        let t_a = published::raw_pixels_to_ir_data(&narrow, destination);
+        put(t_a, destination)
+    });
+    let j = Judged { call: "infrared, large offsets", label, mask: &f.mask, before };
+    judge(tally, &j, verdict, answer, &after, &said);
+
+    let mut after = before.to_vec();
+    let answer = library::raw_pixels_to_temperatures(&f, &mut after);
+    let said = of_call(before, |destination| {
+        let t_a = published::raw_pixels_to_ir_data(&narrow, destination);
+        put(t_a, destination);
+        rooted::raw_ir_to_temperatures(&narrow, t_a, destination)
+    });
+    judge(tally, &Judged { call: "one pass, large offsets", ..j }, document::one_pass(&f, before.len()), answer, &after, &said);
 }
 
 // The second pass, which the crate has not: from its infrared numbers and the rooted crate's temperatures, by document.rs. Corners rise but for one case in

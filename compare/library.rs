@@ -222,6 +222,11 @@ fn heat(f: &Frame) -> Heat<'_> {
 
 pub fn raw_pixels_to_ir_data(f: &Frame, destination: &mut [u32]) -> Answer {
     let mut answer = border::raw_pixels_to_ir_data(&reading(f), destination);
+    if planted("large-offset-cut") && f.tables.offsets.iter().flatten().any(|offset| offset.unsigned_abs() > 1 << 24) {
+        let mut cut = f.clone();
+        cut.tables.offsets.iter_mut().flatten().for_each(|offset| *offset = *offset / 256 * 256);
+        answer = border::raw_pixels_to_ir_data(&reading(&cut), destination);
+    }
     if planted("t-a-last-place") && answer.number == 0 {
         answer.t_a ^= 1;
     }

@@ -53,7 +53,7 @@ pub struct Held<'t, const RANGE: usize, const HEAT: usize> {
     pub v_dd_0: f32,
 }
 
-// The crate's offsets are 16 bits: the comparison's frames have no others.
+// The crate's offsets are 16 bits: frames with others are judged by document.rs.
 fn narrow(tables: &Tables) -> [Vec<i16>; 2] {
     [0, 1].map(|s| tables.offsets[s].iter().map(|x| (*x).try_into().expect("an offset of 16 bits")).collect())
 }
