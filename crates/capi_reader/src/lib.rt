@@ -77,7 +77,8 @@ pub extern "C" fn loamchalice_reader_new() -> Reader
     reader_out(reader::new())
 }
 
-// Takes a piece of any length. Refusals 2, 3, 4, 6 and 13; once ended the answer again. Tables change only with the answer of a card that is done.
+// Takes a piece of any length; an empty one changes nothing. Refusals 2, 3, 4, 6 and 13; once ended the answer again. Tables change only with the answer of a
+// card that is done.
 #[no_mangle]
 pub extern "C" fn loamchalice_reader_take(
     image: &mut Image,
@@ -117,7 +118,8 @@ pub extern "C" fn loamchalice_reader_take(
     Taken { reader, answer }
 }
 
-// No more bytes come: refusal 1 with the bytes so far, and the reading has ended; once ended the same again.
+// No more bytes come: refusal 1 with the bytes so far, and the reading has ended; once ended the same again. With 1,664 bytes or more and not ended, which no
+// calls make, the reader comes back as it is.
 #[no_mangle]
 pub extern "C" fn loamchalice_reader_finished(reader: Reader) -> Reader
     ensures { λ r. ⌜ r ≡ finishesOut reader ⌝ }
