@@ -4,7 +4,7 @@ ghost use Prim.Native.Nat.{min, _+_, _*_, _<_, _≤_};
 ghost use lib.IntN.{_-ℤ_};
 ghost use lib.ListN.{length};
 ghost use lib.Signed.{mag};
-ghost use Rattle.util.specs.Words.{bigEndian, wordAt};
+ghost use Rattle.util.specs.Words.{bigEndian, swapped, wordAt};
 ghost use Rattle.util.specs.Fields.{signed, combined, pairOf, inI16};
 
 // A word as two numbers.
@@ -20,14 +20,23 @@ pub fn big_endian(high: u8, low: u8) -> u16
     high as u16 * 256 + low as u16
 }
 
+// Word number `index` of the bytes, which reach that far, with its two bytes exchanged: in this order x86-64 loads both at once.
+fn swapped_at(bytes: &[u8], index: usize) -> u16
+    requires { ⌜ index * 2 + 1 < length (now bytes) ⌝ }
+    ensures { λ r. ⌜ swapped r ≡ wordAt (now (bytes .entry)) index ⌝ }
+{
+    let high = index * 2;
+    let low = high + 1;
+    big_endian(bytes[low], bytes[high])
+}
+
 // Word number `index` of the bytes, which reach that far.
 pub fn word_at(bytes: &[u8], index: usize) -> u16
     requires { ⌜ index * 2 + 1 < length (now bytes) ⌝ }
     ensures { λ r. ⌜ r ≡ wordAt (now (bytes .entry)) index ⌝ }
 {
-    let high = index * 2;
-    let low = high + 1;
-    big_endian(bytes[high], bytes[low])
+    let word = swapped_at(bytes, index);
+    word % 256 * 256 + word / 256
 }
 
 // A word as a longer number.
