@@ -7,7 +7,7 @@ use Rattle.card.specs.Card.{dataAt}
 use Rattle.card.specs.Inner.{Clean, FilledOn}
 use Rattle.card.specs.declared.Read.{Read}
 use Rattle.hamming.specs.Word.{dataOf}
-use Rattle.card.proofs.Parts.{clean-word, start, one-filled}
+use Rattle.card.proofs.Stretch.{clean-word, start, one-filled}
 use Rattle.card.proofs.fill_clean.Statement.{statement}
 use Rattle.card.proofs.fill_clean.Tie as tie
 
