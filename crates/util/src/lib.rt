@@ -36,7 +36,7 @@ pub fn word_at(bytes: &[u8], index: usize) -> u16
     ensures { λ r. ⌜ r ≡ wordAt (now (bytes .entry)) index ⌝ }
 {
     let word = swapped_at(bytes, index);
-    word % 256 * 256 + word / 256
+    big_endian((word % 256) as u8, (word / 256) as u8)
 }
 
 // A word as a longer number.
