@@ -110,7 +110,7 @@ fn split_bytes(image: &[u8], first: usize, n: usize, high: &mut [u8; LONG], low:
     ensures { λ _. ⌜ now (low .exit) ≡ filled (lowAt (now (image .entry)) first) n (now (low .entry)) ⌝ }
 {
     for i in 0..n {
-        let word = util::word_at(image, first + i);
+        let word = util::word_by_one_load(image, first + i);
         high[i] = (word / 256) as u8;
         low[i] = (word % 256) as u8;
     }
@@ -163,7 +163,7 @@ fn fill_clean(image: &[u8], first: usize, n: usize, words: &mut Words)
 {
     for i in 0..n {
         let word = first + i;
-        words[word] = util::word_at(image, word) % DATA_VALUES;
+        words[word] = util::word_by_one_load(image, word) % DATA_VALUES;
     }
 }
 

@@ -20,7 +20,17 @@ pub fn big_endian(high: u8, low: u8) -> u16
     high as u16 * 256 + low as u16
 }
 
-// Word number `index` of the bytes, which reach that far, with its two bytes exchanged: in this order x86-64 loads both at once.
+// Word number `index` of the bytes, which reach that far.
+pub fn word_at(bytes: &[u8], index: usize) -> u16
+    requires { ⌜ index * 2 + 1 < length (now bytes) ⌝ }
+    ensures { λ r. ⌜ r ≡ wordAt (now (bytes .entry)) index ⌝ }
+{
+    let high = index * 2;
+    let low = high + 1;
+    big_endian(bytes[high], bytes[low])
+}
+
+// The same word with its two bytes exchanged: in this order a compiler for x86-64 makes one load of them.
 fn swapped_at(bytes: &[u8], index: usize) -> u16
     requires { ⌜ index * 2 + 1 < length (now bytes) ⌝ }
     ensures { λ r. ⌜ swapped r ≡ wordAt (now (bytes .entry)) index ⌝ }
@@ -30,8 +40,8 @@ fn swapped_at(bytes: &[u8], index: usize) -> u16
     big_endian(bytes[low], bytes[high])
 }
 
-// Word number `index` of the bytes, which reach that far.
-pub fn word_at(bytes: &[u8], index: usize) -> u16
+// What `word_at` answers, by one load: quicker in a loop over many words, and slower for a byte that was stored just before.
+pub fn word_by_one_load(bytes: &[u8], index: usize) -> u16
     requires { ⌜ index * 2 + 1 < length (now bytes) ⌝ }
     ensures { λ r. ⌜ r ≡ wordAt (now (bytes .entry)) index ⌝ }
 {

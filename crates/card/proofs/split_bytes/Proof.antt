@@ -21,7 +21,7 @@ loop-again : tie.Need-loop-again Inv-loop μ-loop
 loop-again c =
     let l = c .before .before .loop in
     let h = c .before .loop-test .taken in
-    let e = c .word-at .ensures in
+    let e = c .word-by-one-load .ensures in
     (one-more _ (l .inv .0) h (ap (λ (w : ℕ). w / 256) e), one-more _ (l .inv .1) h (ap (λ (w : ℕ). w % 256) e))
 
 returns : tie.Need-returns Inv-loop μ-loop
