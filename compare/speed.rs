@@ -1,17 +1,19 @@
-//! Nanoseconds a frame, a load and a word: the crate as published, the rooted one and the library, over cards/sound.bin and a room's pixels.
-//! All three take turns, so that a busy machine slows them alike; each figure is the least of many rounds. What they write is compared first.
+//! Nanoseconds a frame, a card and a word: the crate as published, the rooted one and the library, over cards/ and a room's pixels.
+//! All three take turns, so that a busy machine slows them alike; each figure is the least of many rounds, and a round times each of them for less
+//! than half a millisecond, since longer times have the scheduler's other work in them. What they answer is compared first.
 #[allow(dead_code)]
 mod library;
 
-use library::{Frame, Ram, Tables};
+use library::{border, Frame, Ram, Tables};
 use std::hint::black_box;
 use std::time::Instant;
 
-const FRAMES: usize = 10_000;
-const LOADS: usize = 2_000;
-const SWEEPS: usize = 10;
-const ROUNDS: usize = 15;
-const IMAGE: &[u8] = include_bytes!("../cards/sound.bin");
+const FRAMES: usize = 32;
+const CARDS: usize = 96;
+const ROUNDS: usize = 500;
+const IMAGE: &[u8; 1664] = include_bytes!("../cards/sound.bin");
+const EIGHT_MENDED: &[u8; 1664] = include_bytes!("../cards/mended.bin");
+const DAMAGED: &[u8; 1664] = include_bytes!("../cards/damaged.bin");
 
 macro_rules! subject {
     ($name:ident, $subject:ident) => {
@@ -22,8 +24,9 @@ macro_rules! subject {
             use $subject::mlx90641::{Mlx90641, Mlx90641Calibration};
             use $subject::{AccessPattern, MelexisCamera, Subpage};
 
-            pub fn load(image: &[u8]) -> Mlx90641Calibration {
-                Mlx90641Calibration::from_data(image).unwrap()
+            #[inline(never)]
+            pub fn load(image: &[u8]) -> Option<Mlx90641Calibration> {
+                Mlx90641Calibration::from_data(image).ok()
             }
 
             #[inline(never)]
@@ -72,8 +75,12 @@ macro_rules! subject {
 subject!(published, mlx9064x);
 subject!(rooted, mlx9064x_rooted);
 
+fn empty_tables() -> Tables {
+    Tables { offsets: [vec![0; 192], vec![0; 192]], alpha: vec![0.0; 192], k_v: vec![0.0; 192], k_ta: vec![0.0; 192] }
+}
+
 fn frames() -> Vec<Frame> {
-    let mut tables = Tables { offsets: [vec![0; 192], vec![0; 192]], alpha: vec![0.0; 192], k_v: vec![0.0; 192], k_ta: vec![0.0; 192] };
+    let mut tables = empty_tables();
     let loaded = library::load(IMAGE, library::BASIC, &mut tables);
     assert_eq!(loaded.number, 0);
     let mut state = 1u32;
@@ -105,7 +112,7 @@ fn words() -> [Vec<u16>; 3] {
     let mut classes = [const { Vec::new() }; 3];
     for word in 0..=u16::MAX {
         let class = match published::check(word) {
-            Some(data) if library::border::encode(data).word == word => 0,
+            Some(data) if border::encode(data).word == word => 0,
             Some(_) => 1,
             None => 2,
         };
@@ -131,9 +138,13 @@ fn line(what: &str, [published, rooted, ours]: [f64; 3]) {
     );
 }
 
-fn main() {
+fn keep(slot: &mut f64, t: f64) {
+    *slot = slot.min(t);
+}
+
+fn time_frames() {
     let frames = frames();
-    let (p, r) = (published::load(IMAGE), rooted::load(IMAGE));
+    let (p, r) = (published::load(IMAGE).unwrap(), rooted::load(IMAGE).unwrap());
     let (mut a, mut b) = ([0f32; 192], [0u32; 192]);
     for f in &frames {
         rooted::one_pass(&r, f, &mut a);
@@ -144,15 +155,12 @@ fn main() {
     let t_a = published::infrared(&p, &frames[0], &mut a);
     let v_ir = a;
     let v_ir_bits = v_ir.map(f32::to_bits);
-    let mut tables = frames[0].tables.clone();
-    let words = words();
-    let mut least = [[f64::MAX; 3]; 7];
+    let mut least = [[f64::MAX; 3]; 3];
     let masked = |pixels: &[usize]| frames.iter().map(|f| Frame { mask: (0..192).map(|k| pixels.contains(&k) as u8).collect(), ..f.clone() }).collect::<Vec<_>>();
     let (one, none) = (masked(&[100]), masked(&[]));
     let dead: Vec<usize> = (0..192).filter(|k| *k != 100).collect();
     let dead = masked(&dead);
     let mut others = [f64::MAX; 5];
-    let keep = |slot: &mut f64, t: f64| *slot = slot.min(t);
     for _ in 0..ROUNDS {
         let pass = &mut least[0];
         keep(&mut pass[0], time(FRAMES, |k| { black_box(published::one_pass(&p, black_box(&frames[k % 16]), black_box(&mut a))); }));
@@ -174,18 +182,7 @@ fn main() {
         keep(&mut onward[0], time(FRAMES, |k| { a = v_ir; published::temperatures(&p, black_box(&frames[k % 16]), t_a, black_box(&mut a)); }));
         keep(&mut onward[1], time(FRAMES, |k| { a = v_ir; rooted::temperatures(&r, black_box(&frames[k % 16]), t_a, black_box(&mut a)); }));
         keep(&mut onward[2], time(FRAMES, |k| { b = v_ir_bits; black_box(library::raw_ir_to_temperatures(black_box(&frames[k % 16]), t_a, black_box(&mut b))); }));
-        let load = &mut least[3];
-        keep(&mut load[0], time(LOADS, |_| { black_box(published::load(black_box(IMAGE))); }));
-        keep(&mut load[1], time(LOADS, |_| { black_box(rooted::load(black_box(IMAGE))); }));
-        keep(&mut load[2], time(LOADS, |_| { black_box(library::load(black_box(IMAGE), library::BASIC, black_box(&mut tables))); }));
-        for (words, check) in words.iter().zip(&mut least[4..]) {
-            let each = words.len() as f64;
-            keep(&mut check[0], time(SWEEPS, |_| words.iter().for_each(|&word| { black_box(published::check(word)); })) / each);
-            keep(&mut check[1], time(SWEEPS, |_| words.iter().for_each(|&word| { black_box(rooted::check(word)); })) / each);
-            keep(&mut check[2], time(SWEEPS, |_| words.iter().for_each(|&word| { black_box(library::border::check(word)); })) / each);
-        }
     }
-    println!("least of {ROUNDS} rounds; {FRAMES} frames, {LOADS} loads and {SWEEPS} times every word in each");
     line("one pass, a frame", least[0]);
     let names = ["with a filter's answer", "the second pass", "all but one pixel asked for", "one pixel asked for", "none asked for"];
     for (what, time) in names.iter().zip(others) {
@@ -193,8 +190,93 @@ fn main() {
     }
     line("of it, pixels to infrared", least[1]);
     line("of it, infrared to temperature", least[2]);
-    line("load, a card", least[3]);
-    line("check, a word that is clean", least[4]);
-    line("check, a word that is mended", least[5]);
-    line("check, a word that is damaged", least[6]);
+}
+
+/// The sound card with one flipped bit, in a word of its own for each of 16 cards: words 40, 90, 140 .. 790.
+fn one_mended() -> Vec<[u8; 1664]> {
+    (0..16)
+        .map(|k| {
+            let mut image = *IMAGE;
+            image[2 * (40 + 50 * k)] ^= 1;
+            image
+        })
+        .collect()
+}
+
+/// A card through the reader, in pieces of 64 bytes.
+fn in_pieces(kept: &mut [u8; 1664], tables: &mut Tables) -> library::Load {
+    let mut reader = border::reader_new();
+    for piece in IMAGE.chunks(64) {
+        let [zero, one] = &mut tables.offsets;
+        let (alpha, k_v, k_ta) = (&mut tables.alpha, &mut tables.k_v, &mut tables.k_ta);
+        reader = border::reader_take(kept, reader, black_box(piece), library::BASIC, [zero, one], alpha, k_v, k_ta).reader;
+    }
+    reader.answer
+}
+
+fn time_cards() {
+    let kinds = [
+        ("load, a clean card", vec![*IMAGE], (0, 0)),
+        ("load, a card with a mended word", one_mended(), (0, 1)),
+        ("load, a card with eight", vec![*EIGHT_MENDED], (0, 8)),
+        ("load, a damaged card", vec![*DAMAGED], (3, 0)),
+    ];
+    let mut tables = empty_tables();
+    for (what, images, expected) in &kinds {
+        for image in images {
+            let loaded = library::load(image, library::BASIC, &mut tables);
+            assert_eq!((loaded.number, loaded.mended), *expected, "{what}");
+            assert!(published::load(image).is_some() == (loaded.number == 0) && rooted::load(image).is_some() == (loaded.number == 0), "{what}");
+        }
+    }
+    let (mut kept, mut scrubbed) = ([0u8; 1664], *EIGHT_MENDED);
+    let (mut data, mut others, mut damaged) = ([0u16; 814], [0u16; 18], [0u16; 814]);
+    assert_eq!(in_pieces(&mut kept, &mut tables).number, 0);
+    assert_eq!(border::read_words(IMAGE, &mut data, &mut others).number, 0);
+    assert_eq!(border::scrub(&mut scrubbed, &mut data, &mut damaged).changed, 8);
+    let mut least = [[f64::MAX; 3]; 4];
+    let mut alone = [f64::MAX; 4];
+    for _ in 0..ROUNDS {
+        for ((_, images, _), load) in kinds.iter().zip(&mut least) {
+            let n = images.len();
+            keep(&mut load[0], time(CARDS, |k| { black_box(published::load(black_box(&images[k % n]))); }));
+            keep(&mut load[1], time(CARDS, |k| { black_box(rooted::load(black_box(&images[k % n]))); }));
+            keep(&mut load[2], time(CARDS, |k| { black_box(library::load(black_box(&images[k % n]), library::BASIC, black_box(&mut tables))); }));
+        }
+        keep(&mut alone[0], time(CARDS, |_| { black_box(border::read_words(black_box(IMAGE), black_box(&mut data), black_box(&mut others))); }));
+        // A clean card stays as it is; one that is mended is put there again.
+        keep(&mut alone[1], time(CARDS, |_| { black_box(border::scrub(black_box(&mut kept), black_box(&mut data), black_box(&mut damaged))); }));
+        keep(&mut alone[2], time(CARDS, |_| { scrubbed = *EIGHT_MENDED; black_box(border::scrub(black_box(&mut scrubbed), black_box(&mut data), black_box(&mut damaged))); }));
+        keep(&mut alone[3], time(CARDS, |_| { black_box(in_pieces(black_box(&mut kept), black_box(&mut tables))); }));
+    }
+    for ((what, _, _), least) in kinds.iter().zip(least) {
+        line(what, least);
+    }
+    let names = ["read_words, a clean card", "scrub, a clean card", "scrub, a card with eight", "reader, a clean card in pieces of 64 bytes"];
+    for (what, time) in names.iter().zip(alone) {
+        println!("{what}\tlibrary {time:.0} ns\tover its load {:.2}", time / least[0][2]);
+    }
+}
+
+fn time_words() {
+    let words = words();
+    let mut least = [[f64::MAX; 3]; 3];
+    for _ in 0..ROUNDS {
+        for (words, check) in words.iter().zip(&mut least) {
+            let each = words.len() as f64;
+            keep(&mut check[0], time(1, |_| words.iter().for_each(|&word| { black_box(published::check(word)); })) / each);
+            keep(&mut check[1], time(1, |_| words.iter().for_each(|&word| { black_box(rooted::check(word)); })) / each);
+            keep(&mut check[2], time(1, |_| words.iter().for_each(|&word| { black_box(border::check(word)); })) / each);
+        }
+    }
+    line("check, a word that is clean", least[0]);
+    line("check, a word that is mended", least[1]);
+    line("check, a word that is damaged", least[2]);
+}
+
+fn main() {
+    println!("least of {ROUNDS} rounds; {FRAMES} frames, {CARDS} cards and once every word in each");
+    time_frames();
+    time_cards();
+    time_words();
 }

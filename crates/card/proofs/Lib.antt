@@ -1,5 +1,5 @@
 -- The laws that callers cite are in Data and Times.
 mod Reading
-mod Parts
+mod Stretch
 pub mod Data
 pub mod Times

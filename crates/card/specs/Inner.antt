@@ -1,6 +1,6 @@
 -- For inner functions only. What a word of an image says, and what the cursor reads at a word of decoded data: the field, and the cursor past it.
 -- Assumes nothing.
-use Prim.Native.Nat.{ℕ, _+_, _<_, _≤_}
+use Prim.Native.Nat.{ℕ, _+_, _/_, _%_, _<_, _≤_}
 use mathlib.Core.Path.{_≡_}
 use mathlib.Core.Bool.{Bool, true}
 use mathlib.Core.List.{List}
@@ -29,13 +29,24 @@ readOf image word = record { value = dataAt image word; damaged = damagedAt imag
 abbrev pub counted : Mending → ℕ → Bool → Mending
 counted m word stray = pick stray (record { count = m .count + 1; last = word }) m
 
+-- the longest stretch of words that is looked at at once
+abbrev pub long : ℕ
+long = 160
+
+-- the bytes of the words from `first` on, by how far on they are
+abbrev pub highAt : List ℕ → ℕ → ℕ → ℕ
+highAt image first i = wordAt image (first + i) / 256
+
+abbrev pub lowAt : List ℕ → ℕ → ℕ → ℕ
+lowAt image first i = wordAt image (first + i) % 256
+
 -- the n words from `first` on are codewords
 pub record Codewords (image : List ℕ) (first n : ℕ) : Type 0 where
   pub at : (i : ℕ) → i < n → codeword (wordAt image (first + i)) ≡ true
 
--- and stand on the card where all are checked
+-- and, if there are any, checked words of the card
 pub record Clean (image : List ℕ) (first n : ℕ) : Type 0 where
-  pub from : 0 < n → 32 ≤ first
+  pub from : 0 < n → 24 ≤ first
   pub within : first + n ≤ cardWords
   pub codewords : Codewords image first n
 

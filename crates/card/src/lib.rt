@@ -9,17 +9,21 @@ ghost use Rattle.floats.specs.Floats.{real, over};
 ghost use Rattle.util.specs.Fields.{combined};
 ghost use Rattle.map.specs.Map.{cardWords, imageBytes};
 ghost use Rattle.card.specs.Card.{dataAt, firstDamaged, noMending, mendingBelow};
-ghost use Rattle.card.specs.Inner.{readOf, counted, Codewords, Clean, FilledOn, plainAt, signedAt, combinedAt, splitAt, scaledAt, times32At, fractionAt, realAt};
+ghost use Rattle.card.specs.Inner.{readOf, counted, long, highAt, lowAt, Codewords, Clean, FilledOn, plainAt, signedAt, combinedAt, splitAt, scaledAt, times32At, fractionAt, realAt};
 use hamming::Checked;
 use hamming::DATA_VALUES;
 use map::WORDS;
 use map::Words;
 use util::Pair;
 
-// Words are looked at side by side from a multiple of 32 on, but not among the first 32, of which some are unchecked.
-const NEAR: usize = 32;
-// As many at once, or else 32.
-const FAR: usize = 160;
+// Words are looked at in stretches from this one on, since all from 21 on are checked. A stretch begins at a multiple of 8.
+const FIRST_STRETCH: usize = 24;
+// How long a stretch is.
+const LONG: usize = 160;
+
+const MIDDLE: usize = 32;
+
+const SHORT: usize = 8;
 
 // How many checked words are no codewords, and the number of the last of them; 832 if there is none.
 pub struct Mending {
@@ -99,48 +103,67 @@ impl Mending {
     }
 }
 
-// Whether the n words from `first` on are codewords, with no branch for each.
-fn are_codewords(image: &[u8], first: usize, n: usize) -> bool
-    requires { ⌜ (imageBytes ≤ length (now image)) × (first + n ≤ cardWords) ⌝ }
-    ensures { λ r. ⌜ (r ≡ true → Codewords (now (image .entry)) first n) ⌝ }
+// The high and the low bytes of the n words from `first` on.
+fn split_bytes(image: &[u8], first: usize, n: usize, high: &mut [u8; LONG], low: &mut [u8; LONG])
+    requires { ⌜ (imageBytes ≤ length (now image)) × (first + n ≤ cardWords) × (n ≤ long) ⌝ }
+    ensures { λ _. ⌜ now (high .exit) ≡ filled (highAt (now (image .entry)) first) n (now (high .entry)) ⌝ }
+    ensures { λ _. ⌜ now (low .exit) ≡ filled (lowAt (now (image .entry)) first) n (now (low .entry)) ⌝ }
 {
-    let mut stray: u8 = 0;
     for i in 0..n {
-        let high = (first + i) * 2;
-        let low = high + 1;
-        stray = stray | hamming::stray(image[high], image[low]);
+        let word = util::word_by_one_load(image, first + i);
+        high[i] = (word / 256) as u8;
+        low[i] = (word % 256) as u8;
     }
-    stray == 0
 }
 
-// How many words from this one on are seen at once to be clean: 160, 32 or none.
+// Whether the n words from `first` on are codewords. No word has a branch of its own and the bytes stand in order, so that a compiler takes 16 words
+// at once.
+fn are_codewords(image: &[u8], first: usize, n: usize) -> bool
+    requires { ⌜ (imageBytes ≤ length (now image)) × (first + n ≤ cardWords) × (n ≤ long) ⌝ }
+    ensures { λ r. ⌜ (r ≡ true → Codewords (now (image .entry)) first n) ⌝ }
+{
+    let mut high = [0u8; LONG];
+    let mut low = [0u8; LONG];
+    split_bytes(image, first, n, &mut high, &mut low);
+    let mut any: u8 = 0;
+    for i in 0..n {
+        any = any | hamming::not_codeword(high[i], low[i]);
+    }
+    any == 0
+}
+
+// How many words from this one on are found to be codewords at once: 160, 32, 8 or none. 160 are tried at word 32 and at every 160th word after it, so
+// that a mended word costs one long try.
 fn clean_ahead(image: &[u8], word: usize) -> usize
     requires { ⌜ (imageBytes ≤ length (now image)) × (word < cardWords) ⌝ }
     ensures { λ r. ⌜ Clean (now (image .entry)) word r ⌝ }
 {
-    if word < NEAR {
+    if word < FIRST_STRETCH {
         return 0;
     }
-    if word % NEAR != 0 {
+    if word % SHORT != 0 {
         return 0;
     }
-    if word + FAR <= WORDS && are_codewords(image, word, FAR) {
-        return FAR;
+    if word % LONG == MIDDLE && are_codewords(image, word, LONG) {
+        return LONG;
     }
-    if are_codewords(image, word, NEAR) {
-        return NEAR;
+    if word % MIDDLE == 0 && are_codewords(image, word, MIDDLE) {
+        return MIDDLE;
+    }
+    if are_codewords(image, word, SHORT) {
+        return SHORT;
     }
     0
 }
 
-// The data of n words that are clean.
+// The data of n words that are codewords.
 fn fill_clean(image: &[u8], first: usize, n: usize, words: &mut Words)
     requires { ⌜ (imageBytes ≤ length (now image)) × Clean (now image) first n ⌝ }
     ensures { λ _. ⌜ FilledOn (dataAt (now (image .entry))) first n (now (words .entry)) (now (words .exit)) ⌝ }
 {
     for i in 0..n {
         let word = first + i;
-        words[word] = util::word_at(image, word) % DATA_VALUES;
+        words[word] = util::word_by_one_load(image, word) % DATA_VALUES;
     }
 }
 

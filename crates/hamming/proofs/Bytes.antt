@@ -1,5 +1,5 @@
--- A codeword by its two bytes: under each mask the ones of the one laid over the other are odd in number where those of the word are, and
--- a word is none where one of its five parities is odd. Assumes nothing.
+-- A codeword by its two bytes. The XOR of both bytes under a mask has an odd number of ones where the word has; a word is no codeword if
+-- one of its five parities is odd. Assumes nothing.
 use mathlib.Core.Path.{_≡_, refl, sym, ap, ap₂, _∙_}
 use mathlib.Core.Bool.{Bool, true, false}
 use Prim.Native.Nat.{ℕ, _+_, _*_, _%_, _<_}
@@ -10,7 +10,7 @@ use lib.Count.{ones, onesIn, ones-cat}
 use lib.Dec.{eqb}
 use borrow.Author.Tests.{ne-eqb, eqb-true, eqb-false}
 use Rattle.lists.specs.Pick.{pick}
-use Rattle.hamming.specs.Word.{parity, codeword, strayBit}
+use Rattle.hamming.specs.Word.{parity, codeword, notCodeword}
 use Rattle.hamming.specs.Inner.{syndromeOf, oddByte}
 use Rattle.hamming.proofs.Xor.{bit}
 use Rattle.hamming.proofs.Linear.{in-xor, ones-in, parity-lt}
@@ -26,9 +26,9 @@ odd-xor x y hx hy =
     ∙ sym (ap₂ (λ (m n : ℕ). (m % 2 + n % 2) % 2) (whole x hx) (whole y hy)) ∙ sym (add-mod (ones x) (ones y) 2)
 
 module _ (high low : ℕ) (hh : high < 256) (hl : low < 256) where
-  pub parity-laid : (mh ml : ℕ) → mh < 256 → ml < 256 → oddByte (bitXor (bitAnd low ml) (bitAnd high mh)) ≡ parity (mh * 256 + ml) (high * 256 + low)
+  pub parity-bytes : (mh ml : ℕ) → mh < 256 → ml < 256 → oddByte (bitXor (bitAnd low ml) (bitAnd high mh)) ≡ parity (mh * 256 + ml) (high * 256 + low)
   unfolding parity
-  parity-laid mh ml gh gl =
+  parity-bytes mh ml gh gl =
       let x = bitAnd high mh in
       let y = bitAnd low ml in
       let hx : x < 256 = and-lt 8 high mh hh gh in
@@ -39,7 +39,7 @@ module _ (high low : ℕ) (hh : high < 256) (hl : low < 256) where
   pub parity-whole : oddByte (bitXor low high) ≡ parity 0xFFFF (high * 256 + low)
   parity-whole =
       sym (ap₂ (λ (x y : ℕ). oddByte (bitXor x y)) (and-mask low 8 ∙ mod-eq-of-lt hl) (and-mask high 8 ∙ mod-eq-of-lt hh))
-      ∙ parity-laid 255 255 (omega arith) (omega arith)
+      ∙ parity-bytes 255 255 (omega arith) (omega arith)
 
 -- 0 for 0, else 1
 abbrev some : ℕ → ℕ
@@ -64,7 +64,7 @@ more s p h =
     (or-one (eqb s 0) ∙ sym (ap (λ (b : Bool). pick b 0 1) (ne-eqb (s * 2 + 1) 0 (λ z. omega arith)))) p h
 
 pub any-odd : (w : ℕ) → w < 65536
-    → bitOr (bitOr (bitOr (bitOr (parity 0xFFFF w) (parity 0x47F0 w)) (parity 0x278E w)) (parity 0x166D w)) (parity 0x0D5B w) ≡ strayBit w
+    → bitOr (bitOr (bitOr (bitOr (parity 0xFFFF w) (parity 0x47F0 w)) (parity 0x278E w)) (parity 0x166D w)) (parity 0x0D5B w) ≡ notCodeword w
 unfolding syndromeOf
 any-odd w h =
     let a = parity 0xFFFF w in let b = parity 0x47F0 w in let c = parity 0x278E w in let d = parity 0x166D w in let e = parity 0x0D5B w in

@@ -31,9 +31,9 @@ dataOf w = w % dataValues
 unfoldable pub codeword : ℕ → Bool
 codeword w = eqb w (encoded (dataOf w))
 
--- 1 where the word is none
-abbrev pub strayBit : ℕ → ℕ
-strayBit w = pick (codeword w) 0 1
+-- 0 for a codeword, else 1
+abbrev pub notCodeword : ℕ → ℕ
+notCodeword w = pick (codeword w) 0 1
 
 -- the word with bit k flipped
 abbrev pub flip : ℕ → ℕ → ℕ

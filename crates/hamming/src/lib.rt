@@ -1,7 +1,7 @@
 // The chip word: data in bits 0 to 10, check bits P0 to P4 in bits 11 to 15. Encoding data, and checking and mending a word.
 ghost use mathlib.Core.Path.{_≡_};
 ghost use Prim.Native.Nat.{_+_, _*_, _<_};
-ghost use Rattle.hamming.specs.Word.{parity, dataValues, encoded, strayBit};
+ghost use Rattle.hamming.specs.Word.{parity, dataValues, encoded, notCodeword};
 ghost use Rattle.hamming.specs.Inner.{syndromeOf, spread, oddByte};
 ghost use Rattle.hamming.specs.Answer.{encodeAnswer, checkAnswer};
 use refusal::Refusal;
@@ -76,10 +76,10 @@ fn odd_byte(byte: u8) -> u8
     (u8::count_ones(byte) % 2) as u8
 }
 
-// 0 where the word of these two bytes is a codeword, else 1: for each check bit, P4 first, the bits that it is over and itself, those of the
-// high byte laid over those of the low. With no branch, so that many words can go side by side.
-pub fn stray(high: u8, low: u8) -> u8
-    ensures { λ r. ⌜ r ≡ strayBit (high * 256 + low) ⌝ }
+// 0 if the word of these two bytes is a codeword, else 1. For each check bit, P4 first, the bits of both bytes that it is over, and itself,
+// are counted. There is no branch, so that a compiler can take several words at once.
+pub fn not_codeword(high: u8, low: u8) -> u8
+    ensures { λ r. ⌜ r ≡ notCodeword (high * 256 + low) ⌝ }
 {
     odd_byte(low ^ high)
         | odd_byte((low & 0xF0) ^ (high & 0x47))

@@ -39,7 +39,7 @@ fn reading_at(pixels: &[u8], i: usize) -> f32
     requires { ⌜ i * 2 + 1 < length (now pixels) ⌝ }
     ensures { λ r. ⌜ r ≡ readingAt (now (pixels .entry)) i ⌝ }
 {
-    let word = util::word_at(pixels, i);
+    let word = util::word_by_one_load(pixels, i);
     util::i16_from_bits(util::wide(word), 16) as f32
 }
 

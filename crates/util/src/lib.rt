@@ -4,7 +4,7 @@ ghost use Prim.Native.Nat.{min, _+_, _*_, _<_, _≤_};
 ghost use lib.IntN.{_-ℤ_};
 ghost use lib.ListN.{length};
 ghost use lib.Signed.{mag};
-ghost use Rattle.util.specs.Words.{bigEndian, wordAt};
+ghost use Rattle.util.specs.Words.{bigEndian, swapped, wordAt};
 ghost use Rattle.util.specs.Fields.{signed, combined, pairOf, inI16};
 
 // A word as two numbers.
@@ -28,6 +28,25 @@ pub fn word_at(bytes: &[u8], index: usize) -> u16
     let high = index * 2;
     let low = high + 1;
     big_endian(bytes[high], bytes[low])
+}
+
+// The same word with its two bytes exchanged: in this order a compiler for x86-64 makes one load of them.
+fn swapped_at(bytes: &[u8], index: usize) -> u16
+    requires { ⌜ index * 2 + 1 < length (now bytes) ⌝ }
+    ensures { λ r. ⌜ swapped r ≡ wordAt (now (bytes .entry)) index ⌝ }
+{
+    let high = index * 2;
+    let low = high + 1;
+    big_endian(bytes[low], bytes[high])
+}
+
+// What `word_at` answers, by one load: quicker in a loop over many words, and slower for a byte that was stored just before.
+pub fn word_by_one_load(bytes: &[u8], index: usize) -> u16
+    requires { ⌜ index * 2 + 1 < length (now bytes) ⌝ }
+    ensures { λ r. ⌜ r ≡ wordAt (now (bytes .entry)) index ⌝ }
+{
+    let word = swapped_at(bytes, index);
+    big_endian((word % 256) as u8, (word / 256) as u8)
 }
 
 // A word as a longer number.

@@ -18,7 +18,7 @@ use Rattle.card.specs.Inner.{counted, Clean}
 use Rattle.card.specs.declared.Mending.{Mending}
 use Rattle.card.specs.declared.Read.{Read}
 use Rattle.card.proofs.Reading.{none-counted, one-counted, count-within}
-use Rattle.card.proofs.Parts.{none-damaged, none-mended}
+use Rattle.card.proofs.Stretch.{none-damaged, none-mended}
 use Rattle.card.proofs.decode.Statement.{statement}
 use Rattle.card.proofs.decode.Tie as tie
 

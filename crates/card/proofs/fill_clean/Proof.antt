@@ -7,7 +7,7 @@ use Rattle.card.specs.Card.{dataAt}
 use Rattle.card.specs.Inner.{Clean, FilledOn}
 use Rattle.card.specs.declared.Read.{Read}
 use Rattle.hamming.specs.Word.{dataOf}
-use Rattle.card.proofs.Parts.{clean-word, start, one-filled}
+use Rattle.card.proofs.Stretch.{clean-word, start, one-filled}
 use Rattle.card.proofs.fill_clean.Statement.{statement}
 use Rattle.card.proofs.fill_clean.Tie as tie
 
@@ -26,7 +26,7 @@ loop-again c =
     let l = c .before .before .loop in
     let p : Clean (s .args .image .now) (s .args .first) (s .args .n) = s .pre .1 in
     let h : l .i < s .args .n = search needs in
-    (omega arith, one-filled _ _ _ (l .inv .1) (ap dataOf (c .word-at .ensures) ∙ ap (λ (r : Read). r .value) (clean-word _ _ _ p (l .i) h)))
+    (omega arith, one-filled _ _ _ (l .inv .1) (ap dataOf (c .word-by-one-load .ensures) ∙ ap (λ (r : Read). r .value) (clean-word _ _ _ p (l .i) h)))
 
 returns : tie.Need-returns Inv-loop μ-loop
 returns c = let l = c .before .loop in let e : l .i ≡ c .before .before .before .args .n = omega arith in rw e at (l .inv .1)

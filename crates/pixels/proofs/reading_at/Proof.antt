@@ -14,7 +14,7 @@ returns c =
       toZ-ofZ {w = w16} (record { sfits = r .i16-from-bits .ok }),
       r .i16-from-bits .ensures,
       r .before .wide .ensures,
-      r .before .before .word-at .ensures,
+      r .before .before .word-by-one-load .ensures,
     )
 
 pub reading-at-spec : {M : Type 1} → statement M

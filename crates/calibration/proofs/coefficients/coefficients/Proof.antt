@@ -1,6 +1,6 @@
 -- `calibration::coefficients::coefficients` meets its contract: from the basic range up, and from there down. Assumes nothing.
 use borrow.Author.Needs.{needs}
-use Rattle.calibration.proofs.Climb.{all}
+use Rattle.calibration.proofs.Between.{all}
 use Rattle.calibration.proofs.coefficients.coefficients.Statement.{statement}
 use Rattle.calibration.proofs.coefficients.coefficients.Tie as tie
 

@@ -8,7 +8,7 @@ use Rattle.calibration.specs.declared.Ranges.{Ranges}
 use Rattle.calibration.specs.Coefficients.{coefficientAt}
 use Rattle.calibration.specs.Inner.{Growths, Between}
 use Rattle.calibration.proofs.Steps.{at-basic, next-below}
-use Rattle.calibration.proofs.Climb.{one-down}
+use Rattle.calibration.proofs.Between.{one-down}
 use Rattle.calibration.proofs.coefficients.downward.Statement.{statement}
 use Rattle.calibration.proofs.coefficients.downward.Tie as tie
 

@@ -11,7 +11,7 @@ use Rattle.calibration.specs.declared.Ranges.{Ranges}
 use Rattle.calibration.specs.Coefficients.{coefficientAt}
 use Rattle.calibration.specs.Inner.{Growths, Between}
 use Rattle.calibration.proofs.Steps.{at-basic, next-above}
-use Rattle.calibration.proofs.Climb.{one-up}
+use Rattle.calibration.proofs.Between.{one-up}
 use Rattle.calibration.proofs.coefficients.upward.Statement.{statement}
 use Rattle.calibration.proofs.coefficients.upward.Tie as tie
 

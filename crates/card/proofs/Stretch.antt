@@ -1,35 +1,35 @@
--- Words that are looked at side by side and are clean: none is damaged or counted, and their data are their lower bits.
--- Assumes nothing.
+-- A stretch of words that are all codewords: none is damaged or counted as mended, and the data of each are its low bits. Then how
+-- words are looked at and filled, one word further. Assumes nothing.
 use Prim.Native.Nat.{ℕ, zero, suc, _+_, _-_, _≤_, _<_}
 use mathlib.Core.Path.{_≡_, refl, sym, ap, ap₂, _∙_, subst}
 use mathlib.Core.Bool.{Bool, true, false}
 use mathlib.Core.List.{List}
 use native.Mathlib.Decide.{decLe}
-use native.Mathlib.Nat.{add-zero, add-suc, add-assoc, le-refl}
+use native.Mathlib.Nat.{add-zero, add-suc, add-assoc, le-refl, div-add-mod'}
 use native.Mathlib.Omega.{arith}
 use lib.Bits.{bitOr}
 use lib.Dec.{T, ltb}
-use lib.ListN.{set}
+use lib.ListN.{getD, set, length}
 use borrow.Author.Tests.{le-ltb, lt-ltb}
 use Rattle.lists.specs.Pick.{pick}
 use Rattle.lists.specs.First.{firstFrom}
 use Rattle.lists.specs.Written.{filled}
-use Rattle.lists.proofs.Written.{stored}
+use Rattle.lists.proofs.Written.{stored, written-at}
 use Rattle.lists.proofs.First.{further}
 use Rattle.lists.proofs.Every.{at}
-use Rattle.util.specs.Words.{wordAt}
+use Rattle.util.specs.Words.{bigEndian, wordAt}
 use Rattle.util.proofs.Or.{left-none, right-none}
-use Rattle.hamming.specs.Word.{dataOf, codeword, strayBit}
+use Rattle.hamming.specs.Word.{dataOf, codeword, notCodeword}
 use Rattle.hamming.proofs.Exactly.{clean-is}
 use Rattle.map.specs.Map.{cardWords, checked, roleOf, spans}
 use Rattle.card.specs.Card.{damagedAt, mendingBelow}
-use Rattle.card.specs.Inner.{readOf, counted, Codewords, Clean, FilledOn}
+use Rattle.card.specs.Inner.{readOf, counted, highAt, lowAt, Codewords, Clean, FilledOn}
 use Rattle.card.specs.declared.Read.{Read}
 use Rattle.card.proofs.Reading.{clean, one-counted}
 
--- from word 32 on all are checked
+-- all words of the card from 24 on are checked
 right : ℕ → Bool
-right w = pick (ltb w 32) true (pick (ltb w cardWords) (checked w) true)
+right w = pick (ltb w 24) true (pick (ltb w cardWords) (checked w) true)
 
 true-of : (b : Bool) → T b → b ≡ true
 true-of true t = refl
@@ -39,9 +39,9 @@ test : (w : ℕ) → w < 1024 → T (right w)
 unfolding right checked roleOf spans
 test w h = at right 10 tt w h
 
-checked-from : (w : ℕ) → 32 ≤ w → w < cardWords → checked w ≡ true
+checked-from : (w : ℕ) → 24 ≤ w → w < cardWords → checked w ≡ true
 unfolding right
-checked-from w a b = true-of (checked w) (rw (le-ltb w 32 a, lt-ltb w cardWords b) at (test w (omega arith)))
+checked-from w a b = true-of (checked w) (rw (le-ltb w 24 a, lt-ltb w cardWords b) at (test w (omega arith)))
 
 module _ (image : List ℕ) (first n : ℕ) (p : Clean image first n) where
   pub clean-word : (i : ℕ) → i < n → record { value = dataOf (wordAt image (first + i)); damaged = false; stray = false } ≡ readOf image (first + i)
@@ -76,25 +76,33 @@ module _ (image : List ℕ) (first n : ℕ) (p : Clean image first n) where
 
 -- ---- looking
 
--- of n words i were looked at, and if none was astray they are codewords
-pub record Looked (image : List ℕ) (first n stray i : ℕ) : Type 0 where
+-- of n words i were looked at, and if `any` is 0 they are codewords
+pub record Looked (image : List ℕ) (first n any i : ℕ) : Type 0 where
   pub within : i ≤ n
-  pub clean : stray ≡ 0 → Codewords image first i
+  pub clean : any ≡ 0 → Codewords image first i
 
 code-of : (b : Bool) → pick {A = ℕ} b 0 1 ≡ 0 → b ≡ true
 code-of true e = refl
 code-of false e = absurd (let p : ⊥ = omega arith in p)
 
-pub one-looked : {image : List ℕ} {first n stray i : ℕ} (b : ℕ) → Looked image first n stray i → i < n → b ≡ strayBit (wordAt image (first + i))
-    → Looked image first n (bitOr stray b) (i + 1)
-one-looked {image = image} {first = first} {stray = stray} {i = i} b r h e = record {
+-- a word is made of its bytes, each from an array that was filled with them
+pub of-bytes : (image : List ℕ) (first n : ℕ) (h l : List ℕ) {high low : List ℕ} → high ≡ filled (highAt image first) n h → low ≡ filled (lowAt image first) n l → n ≤ length h
+    → n ≤ length l → (i : ℕ) → i < n → bigEndian (getD high i 0) (getD low i 0) ≡ wordAt image (first + i)
+of-bytes image first n h l e f p q i r =
+    ap₂ (λ (x y : List ℕ). bigEndian (getD x i 0) (getD y i 0)) e f
+    ∙ ap₂ bigEndian (written-at (λ (k : ℕ). true) (highAt image first) n h i 0 p r) (written-at (λ (k : ℕ). true) (lowAt image first) n l i 0 q r)
+    ∙ div-add-mod' (wordAt image (first + i)) 256
+
+pub one-looked : {image : List ℕ} {first n any i : ℕ} (b : ℕ) → Looked image first n any i → i < n → b ≡ notCodeword (wordAt image (first + i))
+    → Looked image first n (bitOr any b) (i + 1)
+one-looked {image = image} {first = first} {any = any} {i = i} b r h e = record {
   within = omega arith;
   clean = λ z. record {
     at = λ k l. elim (decLe i k) [
       | yes g ↦
           let q : i ≡ k = omega arith in
-          subst (λ (j : ℕ). codeword (wordAt image (first + j)) ≡ true) q (code-of (codeword (wordAt image (first + i))) (sym e ∙ right-none stray b z))
-      | no g ↦ r .clean (left-none stray b z) .at k (omega arith)
+          subst (λ (j : ℕ). codeword (wordAt image (first + j)) ≡ true) q (code-of (codeword (wordAt image (first + i))) (sym e ∙ right-none any b z))
+      | no g ↦ r .clean (left-none any b z) .at k (omega arith)
     ];
   };
 }
