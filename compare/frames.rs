@@ -425,36 +425,49 @@ fn ranged(tally: &mut Tally, n: &mut Numbers, label: &str, f: &Frame, before: &[
             r.k_s_to[k] = n.wild();
         }
     }
+    let verdict = document::ranged(&f, before.len());
     let mut after = before.to_vec();
     let answer = library::raw_pixels_to_ranged_temperatures(&f, &mut after);
-    let verdict = document::ranged(&f, before.len());
-    let infrared = of_call(before, |destination| published::raw_pixels_to_ir_data(&f, destination));
-    let basic = of_call(before, |destination| rooted::raw_pixels_to_temperatures(&f, destination));
-    let said = match (infrared, basic) {
-        (Some((t_a, v)), Some((_, basic))) => {
-            let mut wanted = floats(before);
-            for i in (0..wanted.len().min(192)).filter(|i| f.mask.get(*i).is_some_and(|byte| *byte != 0)) {
-                let alpha = f.tables.alpha.get(i).copied().unwrap_or(f32::NAN);
-                wanted[i] = document::ranged_temperature(&f, HEATS[f.heat], t_a, alpha, v[i], basic[i]);
-                let range = (1..8).rev().find(|k| f32::from(f.record.corner_temperatures[*k]) <= basic[i]).unwrap_or(0);
-                tally.count(&format!("second pass, pixels of range {range}"));
-                if (300.0..400.0).contains(&basic[i]) {
-                    tally.count("second pass, pixels of 300 to 400 degrees");
-                }
-            }
-            Some((t_a, wanted))
-        }
-        _ => None,
-    };
+    let said = by_ranges(tally, &f, before);
     let j = Judged { call: "second pass", label, mask: &f.mask, before };
     judge(tally, &j, verdict, answer, &after, &said);
+
+    // With a filter's answer: see below.
+    let average = (!n.one_in(4)).then(|| n.word());
+    let mut after = before.to_vec();
+    let answer = library::filtered_pixels_to_ranged_temperatures(&f, average.map(f32::from), &mut after);
+    let said = by_ranges(tally, &steadied(&f, average), before);
+    judge(tally, &Judged { call: "second pass, filtered", ..j }, verdict, answer, &after, &said);
 }
 
-// The forms with a filter's answer: a whole average is another reading, which the crate can judge; not yet is the frame's own.
-fn filtered(tally: &mut Tally, n: &mut Numbers, label: &str, f: &Frame, before: &[u32]) {
-    let average = (!n.one_in(4)).then(|| n.word());
+// What document.rs says of the second pass.
+fn by_ranges(tally: &mut Tally, f: &Frame, before: &[u32]) -> Said {
+    let (t_a, v) = of_call(before, |destination| published::raw_pixels_to_ir_data(f, destination))?;
+    let (_, basic) = of_call(before, |destination| rooted::raw_pixels_to_temperatures(f, destination))?;
+    let mut wanted = floats(before);
+    for i in (0..wanted.len().min(192)).filter(|i| f.mask.get(*i).is_some_and(|byte| *byte != 0)) {
+        let alpha = f.tables.alpha.get(i).copied().unwrap_or(f32::NAN);
+        wanted[i] = document::ranged_temperature(f, HEATS[f.heat], t_a, alpha, v[i], basic[i]);
+        let range = (1..8).rev().find(|k| f32::from(f.record.corner_temperatures[*k]) <= basic[i]).unwrap_or(0);
+        tally.count(&format!("second pass, pixels of range {range}"));
+        if (300.0..400.0).contains(&basic[i]) {
+            tally.count("second pass, pixels of 300 to 400 degrees");
+        }
+    }
+    Some((t_a, wanted))
+}
+
+// A whole average is another reading, which the crate can judge; not yet is the frame's own.
+fn steadied(f: &Frame, average: Option<i16>) -> Frame {
     let mut steadied = f.clone();
     steadied.ram.compensation_pixel = average.unwrap_or(f.ram.compensation_pixel);
+    steadied
+}
+
+// The forms with a filter's answer.
+fn filtered(tally: &mut Tally, n: &mut Numbers, label: &str, f: &Frame, before: &[u32]) {
+    let average = (!n.one_in(4)).then(|| n.word());
+    let steadied = steadied(f, average);
     tally.count("frames with a filter's answer");
 
     let mut after = before.to_vec();

@@ -4,7 +4,7 @@ use std::sync::OnceLock;
 
 #[path = "../bindings/rust/src/border.rs"]
 pub mod border;
-use border::{Heat, Reading};
+use border::{Average, Camera, Filtered, Input, Pixels, Settings};
 pub use border::{AccessPattern, Answer, Load, Part, PixelEntry, Ram, Record, SixTen, Word};
 
 /// The five tables of a card.
@@ -194,38 +194,43 @@ pub fn load(image: &[u8], basic: usize, tables: &mut Tables) -> Load {
     answer
 }
 
-fn reading(f: &Frame) -> Reading<'_> {
+fn camera(f: &Frame) -> Camera<'_> {
     let [zero, one] = &f.tables.offsets;
-    Reading {
-        record: f.record,
+    Camera { record: f.record, offsets: [zero, one], alpha: &f.tables.alpha, k_v: &f.tables.k_v, k_ta: &f.tables.k_ta }
+}
+
+// What is not looked at is not a number: the self-heating where a reflected temperature is given, and that where it is not.
+fn settings(f: &Frame) -> Settings {
+    Settings {
+        basic_range: f.range,
         emissivity: f.emissivity,
         resolution_correction: f.resolution_correction,
         v_dd_0: f.v_dd_0,
-        ram: f.ram,
-        subpage: f.subpage,
-        offsets: [zero, one],
-        k_v: &f.tables.k_v,
-        k_ta: &f.tables.k_ta,
-        pixels: &f.pixels,
-        mask: &f.mask,
+        self_heating: if f.reflected.is_some() { f32::NAN } else { HEATS[f.heat] },
+        reflected: f.reflected.unwrap_or(f32::NAN),
+        reflected_given: f.reflected.is_some().into(),
     }
 }
 
-fn heat(f: &Frame) -> Heat<'_> {
-    Heat {
-        basic_range: f.range,
-        given: f.reflected.is_some(),
-        reflected: f.reflected.unwrap_or(HEATS[f.heat]),
-        alpha: &f.tables.alpha,
-    }
+fn input(f: &Frame) -> Input {
+    Input { settings: settings(f), ram: f.ram, subpage: f.subpage }
+}
+
+fn filtered(f: &Frame, average: Option<f32>) -> Filtered {
+    let compensation = Average { average: average.unwrap_or(f32::NAN), ready: average.is_some().into() };
+    Filtered { input: input(f), compensation }
+}
+
+fn pixels(f: &Frame) -> Pixels<'_> {
+    Pixels { pixels: &f.pixels, mask: &f.mask }
 }
 
 pub fn raw_pixels_to_ir_data(f: &Frame, destination: &mut [u32]) -> Answer {
-    let mut answer = border::raw_pixels_to_ir_data(&reading(f), destination);
+    let mut answer = border::raw_pixels_to_ir_data(&camera(f), input(f), pixels(f), destination);
     if planted("large-offset-cut") && f.tables.offsets.iter().flatten().any(|offset| offset.unsigned_abs() > 1 << 24) {
         let mut cut = f.clone();
         cut.tables.offsets.iter_mut().flatten().for_each(|offset| *offset = *offset / 256 * 256);
-        answer = border::raw_pixels_to_ir_data(&reading(&cut), destination);
+        answer = border::raw_pixels_to_ir_data(&camera(&cut), input(&cut), pixels(&cut), destination);
     }
     if planted("t-a-last-place") && answer.number == 0 {
         answer.t_a ^= 1;
@@ -243,7 +248,7 @@ pub fn raw_pixels_to_ir_data(f: &Frame, destination: &mut [u32]) -> Answer {
 
 pub fn raw_ir_to_temperatures(f: &Frame, t_a: f32, destination: &mut [u32]) -> Answer {
     let first = destination.first().copied();
-    let mut answer = border::raw_ir_to_temperatures(f.record, f.emissivity, t_a, &heat(f), &f.mask, destination);
+    let mut answer = border::raw_ir_to_temperatures(&camera(f), settings(f), t_a, &f.mask, destination);
     if planted("range-place") && answer.number == 6 {
         answer.place %= 1 << 32;
     }
@@ -255,7 +260,7 @@ pub fn raw_ir_to_temperatures(f: &Frame, t_a: f32, destination: &mut [u32]) -> A
 
 pub fn raw_pixels_to_temperatures(f: &Frame, destination: &mut [u32]) -> Answer {
     let before = destination.last().copied();
-    let mut answer = border::raw_pixels_to_temperatures(&reading(f), &heat(f), destination);
+    let mut answer = border::raw_pixels_to_temperatures(&camera(f), input(f), pixels(f), destination);
     if planted("temperature-last-place") && answer.number == 0 && destination.len() > 100 {
         destination[100] ^= 1;
     }
@@ -270,21 +275,30 @@ pub fn raw_pixels_to_temperatures(f: &Frame, destination: &mut [u32]) -> Answer 
 
 pub fn filtered_pixels_to_ir_data(f: &Frame, average: Option<f32>, destination: &mut [u32]) -> Answer {
     let given = if planted("filtered-infrared-raw") { None } else { average };
-    border::filtered_pixels_to_ir_data(&reading(f), given, destination)
+    border::filtered_pixels_to_ir_data(&camera(f), filtered(f, given), pixels(f), destination)
 }
 
 pub fn filtered_pixels_to_temperatures(f: &Frame, average: Option<f32>, destination: &mut [u32]) -> Answer {
     let given = if planted("filtered-not-yet-is-0") { Some(average.unwrap_or(0.0)) } else { average };
-    border::filtered_pixels_to_temperatures(&reading(f), given, &heat(f), destination)
+    border::filtered_pixels_to_temperatures(&camera(f), filtered(f, given), pixels(f), destination)
 }
 
 pub fn raw_pixels_to_ranged_temperatures(f: &Frame, destination: &mut [u32]) -> Answer {
-    let mut answer = border::raw_pixels_to_ranged_temperatures(&reading(f), &heat(f), destination);
+    let mut answer = border::raw_pixels_to_ranged_temperatures(&camera(f), input(f), pixels(f), destination);
     if planted("second-pass-is-the-first") && answer.number == 0 {
-        answer = border::raw_pixels_to_temperatures(&reading(f), &heat(f), destination);
+        answer = border::raw_pixels_to_temperatures(&camera(f), input(f), pixels(f), destination);
     }
     if planted("corners-one-lower") && answer.number == 12 {
         answer.place -= 1;
+    }
+    answer
+}
+
+pub fn filtered_pixels_to_ranged_temperatures(f: &Frame, average: Option<f32>, destination: &mut [u32]) -> Answer {
+    let given = if planted("filtered-second-pass-raw") { None } else { average };
+    let mut answer = border::filtered_pixels_to_ranged_temperatures(&camera(f), filtered(f, given), pixels(f), destination);
+    if planted("filtered-second-pass-is-the-first") && answer.number == 0 {
+        answer = filtered_pixels_to_temperatures(f, average, destination);
     }
     answer
 }

@@ -2,7 +2,8 @@
  *   tools/archive target/libloamchalice.a
  *   cc -o target/example bindings/c/example.c target/libloamchalice.a
  *   target/example cards/sound.bin
- * The status is 0, 1 for a refusal or a warning, 2 where the card's file can't be read. */
+ * The status is 0, 1 for a refusal or a warning, 2 where the card's file can't be read. Where the card's gain does not fit the frame's, the picture is shown
+ * after the warning; a lamp box would drop the lamp. */
 #include "loamchalice.h"
 #include <errno.h>
 #include <stdio.h>
@@ -30,8 +31,13 @@ static int open_card(const char *path, loamchalice_camera *camera) {
 }
 
 /* What a camera in a room would send: stands for reads over its bus. */
-static loamchalice_ram read_frame(uint8_t pixels[384]) {
-    loamchalice_ram ram = {.t_a_v_be = 19442, .t_a_ptat = 1711, .v_dd_pixel = -13115, .gain = 6391, .compensation_pixel = -105};
+static loamchalice_ram read_frame(uint8_t pixels[LOAMCHALICE_PIXEL_BYTES]) {
+    loamchalice_ram ram;
+    ram.t_a_v_be = 19442;
+    ram.t_a_ptat = 1711;
+    ram.v_dd_pixel = -13115;
+    ram.gain = 6391;
+    ram.compensation_pixel = -105;
     for (int i = 0; i < LOAMCHALICE_PIXELS; i++) {
         uint16_t reading = (uint16_t)(int16_t)(-620 + (i % 16) * 8);
         pixels[2 * i] = (uint8_t)(reading >> 8);
@@ -49,12 +55,16 @@ static void show(loamchalice_answer frame, const uint32_t picture[LOAMCHALICE_PI
 
 int main(int argc, char **argv) {
     static loamchalice_camera camera;
-    static uint8_t pixels[384], mask[LOAMCHALICE_PIXELS];
+    static uint8_t pixels[LOAMCHALICE_PIXEL_BYTES], mask[LOAMCHALICE_PIXELS];
     static uint32_t picture[LOAMCHALICE_PIXELS];
 
     if (argc != 2) {
         fprintf(stderr, "usage: example CARD\n");
         return 2;
+    }
+    if (!loamchalice_environment_is_default()) {
+        fprintf(stderr, "the floating-point environment is not the default one\n");
+        return 1;
     }
     int status = open_card(argv[1], &camera);
     if (status != 0) {
@@ -69,11 +79,15 @@ int main(int argc, char **argv) {
     }
     memset(mask, 1, sizeof mask); /* every pixel */
     loamchalice_ram ram = read_frame(pixels);
+    warning = loamchalice_gain_warning(&camera.record, ram);
+    if (warning != NULL) {
+        fprintf(stderr, "%s\n", warning);
+    }
     loamchalice_answer frame = loamchalice_camera_raw_pixels_to_temperatures(&camera, &settings, ram, 0, pixels, sizeof pixels, mask, picture);
     if (frame.number != 0) {
         fprintf(stderr, "frame refused: %d at %lu\n", (int)frame.number, (unsigned long)frame.place);
         return 1;
     }
     show(frame, picture);
-    return 0;
+    return warning == NULL ? 0 : 1;
 }

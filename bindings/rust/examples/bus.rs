@@ -70,6 +70,9 @@ fn main() -> Result<(), Box<dyn std::error::Error>> {
     let settings = camera.settings(2); // bits 10 and 11 of the control register
     for subpage in [Subpage::Zero, Subpage::One] {
         let (ram, pixels) = read_frame(&mut read, subpage);
+        if let Some(warning) = camera.gain_warning(ram) {
+            eprintln!("{warning}");
+        }
         let (picture, frame) = camera.picture(&settings, ram, subpage, &pixels)?;
         println!("{subpage:?}: inside {:.2}, first pixel {:.2}, {} written, {} lost", frame.t_a, picture[0], frame.written, frame.lost);
     }

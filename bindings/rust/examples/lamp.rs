@@ -1,9 +1,13 @@
-//! The lamp box's loop: a card, frames, a limit. The lamp goes down on any refusal, a short frame among them, on any lost pixel, and where a pixel that counts is
-//! not below the limit.
+//! The lamp box's loop: a card, frames, a limit. The lamp goes down on any warning, on any refusal, a short frame among them, on any lost pixel, and where a
+//! pixel that counts is not below the limit. The status is 1 once the lamp is down, for whatever reason, and 0 if it is still on after the last frame.
 //!   cargo run --offline --example lamp -- ../../cards/sound.bin
-use loamchalice::{Calibration, Filter, RamData, Refusal, Settings, Subpage, ALL_PIXELS};
+use loamchalice::{environment_is_default, Calibration, Filter, RamData, Refusal, Settings, Subpage, ALL_PIXELS};
+use std::process::ExitCode;
 
 const LIMIT: f32 = 45.0;
+
+// The made-up camera has so many frames; a real one goes on.
+const FRAMES: i16 = 100;
 
 // A pixel that is known to be dead is not asked for, and does not count: its entry of the picture is not looked at.
 const DEAD: usize = 37;
@@ -31,6 +35,9 @@ fn read_camera(frame: i16) -> (RamData, Vec<u8>) {
 
 fn judge(gate: &mut Gate, frame: i16) -> Result<Lamp, Refusal> {
     let (ram, pixels) = read_camera(frame);
+    if let Some(warning) = gate.camera.gain_warning(ram) {
+        return Ok(Lamp::Down(warning.to_string()));
+    }
     let subpage = if frame % 2 == 0 { Subpage::Zero } else { Subpage::One };
     let filter = &mut gate.filters[subpage as usize];
     filter.push(ram.compensation_pixel);
@@ -45,6 +52,9 @@ fn judge(gate: &mut Gate, frame: i16) -> Result<Lamp, Refusal> {
 }
 
 fn open(path: &str) -> Result<Gate, String> {
+    if !environment_is_default() {
+        return Err("the floating-point environment is not the default one".to_string());
+    }
     let image = std::fs::read(path).map_err(|error| format!("{path}: {error}"))?;
     let camera = Calibration::from_data(&image).map_err(|refusal| format!("{path}: {refusal}"))?;
     if camera.mended().count > 0 {
@@ -59,17 +69,29 @@ fn open(path: &str) -> Result<Gate, String> {
     Ok(Gate { camera, settings, mask, filters: [Filter::new(); 2] })
 }
 
-fn main() {
-    let path = std::env::args().nth(1).unwrap_or_else(|| "../../cards/sound.bin".to_string());
-    let mut gate = match open(&path) {
+// Why the lamp goes down, or None if it is on after the last frame.
+fn watch(path: &str) -> Option<String> {
+    let mut gate = match open(path) {
         Ok(gate) => gate,
-        Err(why) => return println!("lamp down: {why}"),
+        Err(why) => return Some(why),
     };
-    for frame in 0.. {
-        match judge(&mut gate, frame) {
-            Ok(Lamp::On) => {}
-            Ok(Lamp::Down(why)) => return println!("lamp down: {why}"),
-            Err(refusal) => return println!("lamp down: {refusal}"),
+    (0..FRAMES).find_map(|frame| match judge(&mut gate, frame) {
+        Ok(Lamp::On) => None,
+        Ok(Lamp::Down(why)) => Some(why),
+        Err(refusal) => Some(refusal.to_string()),
+    })
+}
+
+fn main() -> ExitCode {
+    let path = std::env::args().nth(1).unwrap_or_else(|| "../../cards/sound.bin".to_string());
+    match watch(&path) {
+        Some(why) => {
+            println!("lamp down: {why}");
+            ExitCode::FAILURE
+        }
+        None => {
+            println!("lamp on after {FRAMES} frames");
+            ExitCode::SUCCESS
         }
     }
 }

@@ -74,6 +74,9 @@ fn main() -> Result<(), Box<dyn Error>> {
     let camera = Calibration::from_data(&image)?;
     show_card(&image, &camera)?;
     let (ram, pixels) = frame_of(words.get(1).filter(|path| *path != "-"))?;
+    if let Some(warning) = camera.gain_warning(ram) {
+        println!("{warning}");
+    }
     let (picture, frame) = camera.picture(&camera.settings(camera.resolution()), ram, Subpage::Zero, &pixels)?;
     println!("inside {:.2}, {} pixels lost", frame.t_a, frame.lost);
     for row in picture.chunks(16) {

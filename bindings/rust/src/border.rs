@@ -63,6 +63,28 @@ pub struct Ram {
     pub compensation_pixel: i16,
 }
 
+/// Where `reflected_given` is 0 the reflected temperature is the ambient one less `self_heating`, and `reflected` is not looked at.
+#[repr(C)]
+#[derive(Clone, Copy, Debug)]
+pub struct Settings {
+    pub basic_range: usize,
+    pub emissivity: f32,
+    pub resolution_correction: f32,
+    pub v_dd_0: f32,
+    pub self_heating: f32,
+    pub reflected: f32,
+    pub reflected_given: u8,
+}
+
+/// Subpage 0 is the first, any other number the second.
+#[repr(C)]
+#[derive(Clone, Copy, Debug)]
+pub struct Input {
+    pub settings: Settings,
+    pub ram: Ram,
+    pub subpage: u8,
+}
+
 #[repr(C)]
 #[derive(Clone, Copy, Debug)]
 pub struct Answer {
@@ -146,6 +168,13 @@ pub struct Average {
 
 #[repr(C)]
 #[derive(Clone, Copy, Debug)]
+pub struct Filtered {
+    pub input: Input,
+    pub compensation: Average,
+}
+
+#[repr(C)]
+#[derive(Clone, Copy, Debug)]
 pub struct Scrub {
     pub number: u64,
     pub place: u64,
@@ -169,16 +198,40 @@ pub struct Taken {
     pub answer: Load,
 }
 
-// What the archive hands over, on a processor of 64 bits.
-const _: () = {
-    use core::mem::size_of;
-    assert!(size_of::<Word>() == 32 && size_of::<Part>() == 16 && size_of::<Record>() == 132);
-    assert!(size_of::<Load>() == 176 && size_of::<Ram>() == 10 && size_of::<Answer>() == 40 && size_of::<Outcome>() == 24);
-    assert!(size_of::<Step>() == 40 && size_of::<Filter>() == 40 && size_of::<Average>() == 8 && size_of::<Scrub>() == 40);
-    assert!(size_of::<Reader>() == 192 && size_of::<Taken>() == 368);
-    assert!(size_of::<SixTen>() == 4 && size_of::<Unsigned>() == 4 && size_of::<Signed>() == 4);
-    assert!(size_of::<AccessPattern>() == 36 && size_of::<PixelEntry>() == 32);
-};
+// What the archive takes and hands over, on a processor of 64 bits: each struct's size, and where its fields stand, in bytes.
+macro_rules! layout {
+    ($($name:ident $size:literal { $($field:ident $at:literal),* })*) => {
+        const _: () = {
+            $(assert!(core::mem::size_of::<$name>() == $size);
+            $(assert!(core::mem::offset_of!($name, $field) == $at);)*)*
+        };
+    };
+}
+#[rustfmt::skip]
+layout! {
+    Word 32 { number 0, place 8, value 16, word 24, mended 26, bit 27 }
+    Part 16 { start 0, length 8 }
+    Record 132 { k_v_ptat 0, k_t_ptat 4, v_ptat_25 8, alpha_ptat 12, gain 16, k_s_ta 20, emissivity 24, alpha_cp 28, k_v_cp 32, k_ta_cp 36,
+        gradient 40, k_s_to 44, corner_temperatures 76, k_v_dd 92, v_dd_25 94, offset_reference_cp 96, resolution 98, has_gradient 99, range_coefficients 100 }
+    Load 176 { number 0, place 8, value 16, mended 24, last_mended 32, calibration 40 }
+    Reader 192 { count 0, ended 8, answer 16 }
+    Taken 368 { reader 0, answer 192 }
+    Ram 10 { t_a_v_be 0, t_a_ptat 2, v_dd_pixel 4, gain 6, compensation_pixel 8 }
+    Settings 32 { basic_range 0, emissivity 8, resolution_correction 12, v_dd_0 16, self_heating 20, reflected 24, reflected_given 28 }
+    Input 48 { settings 0, ram 32, subpage 42 }
+    Answer 40 { number 0, place 8, value 16, lost 24, t_a 32 }
+    Outcome 24 { number 0, place 8, value 16 }
+    Step 40 { number 0, place 8, value 16, word 24, bits 32, reached 34 }
+    Scrub 40 { number 0, place 8, value 16, changed 24, damaged 32 }
+    Filter 40 { readings 0, sum 32, turn 36 }
+    Average 8 { average 0, ready 4 }
+    Filtered 56 { input 0, compensation 48 }
+    SixTen 4 { six 0, ten 2 }
+    Unsigned 4 { nibbles 0 }
+    Signed 4 { nibbles 0 }
+    AccessPattern 36 { chess_3 0, chess_2 4, chess_1 8, pattern 12 }
+    PixelEntry 32 { number 0, place 8, value 16, entry 24 }
+}
 
 #[rustfmt::skip]
 extern "C" {
@@ -211,43 +264,46 @@ extern "C" {
         k_v: *mut f32, k_v_length: usize, k_ta: *mut f32, k_ta_length: usize,
     ) -> Load;
     fn loamchalice_raw_pixels_to_ir_data(
-        calibration: Record, emissivity: f32, resolution_correction: f32, v_dd_0: f32, ram: Ram, subpage: u8,
+        calibration: Record, input: Input,
         offsets0: *const i32, offsets0_length: usize, offsets1: *const i32, offsets1_length: usize,
         k_v: *const f32, k_v_length: usize, k_ta: *const f32, k_ta_length: usize,
         pixels: *const u8, pixels_length: usize, mask: *const u8, mask_length: usize, destination: *mut u32, destination_length: usize,
     ) -> Answer;
     fn loamchalice_raw_ir_to_temperatures(
-        calibration: Record, emissivity: f32, t_a: f32, basic_range: usize, reflected_given: u8, reflected: f32,
+        calibration: Record, settings: Settings, t_a: f32,
         alpha: *const f32, alpha_length: usize, mask: *const u8, mask_length: usize, destination: *mut u32, destination_length: usize,
     ) -> Answer;
     fn loamchalice_raw_pixels_to_temperatures(
-        calibration: Record, emissivity: f32, resolution_correction: f32, v_dd_0: f32, ram: Ram, subpage: u8,
-        basic_range: usize, reflected_given: u8, reflected: f32,
-        offsets0: *const i32, offsets0_length: usize, offsets1: *const i32, offsets1_length: usize, alpha: *const f32, alpha_length: usize,
-        k_v: *const f32, k_v_length: usize, k_ta: *const f32, k_ta_length: usize,
+        calibration: Record, input: Input,
+        offsets0: *const i32, offsets0_length: usize, offsets1: *const i32, offsets1_length: usize,
+        alpha: *const f32, alpha_length: usize, k_v: *const f32, k_v_length: usize, k_ta: *const f32, k_ta_length: usize,
         pixels: *const u8, pixels_length: usize, mask: *const u8, mask_length: usize, destination: *mut u32, destination_length: usize,
     ) -> Answer;
     fn loamchalice_raw_pixels_to_ranged_temperatures(
-        calibration: Record, emissivity: f32, resolution_correction: f32, v_dd_0: f32, ram: Ram, subpage: u8,
-        basic_range: usize, reflected_given: u8, reflected: f32,
-        offsets0: *const i32, offsets0_length: usize, offsets1: *const i32, offsets1_length: usize, alpha: *const f32, alpha_length: usize,
-        k_v: *const f32, k_v_length: usize, k_ta: *const f32, k_ta_length: usize,
+        calibration: Record, input: Input,
+        offsets0: *const i32, offsets0_length: usize, offsets1: *const i32, offsets1_length: usize,
+        alpha: *const f32, alpha_length: usize, k_v: *const f32, k_v_length: usize, k_ta: *const f32, k_ta_length: usize,
         pixels: *const u8, pixels_length: usize, mask: *const u8, mask_length: usize, destination: *mut u32, destination_length: usize,
     ) -> Answer;
     fn loamchalice_filter_new() -> Filter;
     fn loamchalice_filter_push(filter: Filter, reading: i16) -> Filter;
     fn loamchalice_filter_average(filter: Filter) -> Average;
     fn loamchalice_filtered_pixels_to_ir_data(
-        calibration: Record, emissivity: f32, resolution_correction: f32, v_dd_0: f32, ram: Ram, average_ready: u8, average: f32, subpage: u8,
+        calibration: Record, filtered: Filtered,
         offsets0: *const i32, offsets0_length: usize, offsets1: *const i32, offsets1_length: usize,
         k_v: *const f32, k_v_length: usize, k_ta: *const f32, k_ta_length: usize,
         pixels: *const u8, pixels_length: usize, mask: *const u8, mask_length: usize, destination: *mut u32, destination_length: usize,
     ) -> Answer;
     fn loamchalice_filtered_pixels_to_temperatures(
-        calibration: Record, emissivity: f32, resolution_correction: f32, v_dd_0: f32, ram: Ram, average_ready: u8, average: f32, subpage: u8,
-        basic_range: usize, reflected_given: u8, reflected: f32,
-        offsets0: *const i32, offsets0_length: usize, offsets1: *const i32, offsets1_length: usize, alpha: *const f32, alpha_length: usize,
-        k_v: *const f32, k_v_length: usize, k_ta: *const f32, k_ta_length: usize,
+        calibration: Record, filtered: Filtered,
+        offsets0: *const i32, offsets0_length: usize, offsets1: *const i32, offsets1_length: usize,
+        alpha: *const f32, alpha_length: usize, k_v: *const f32, k_v_length: usize, k_ta: *const f32, k_ta_length: usize,
+        pixels: *const u8, pixels_length: usize, mask: *const u8, mask_length: usize, destination: *mut u32, destination_length: usize,
+    ) -> Answer;
+    fn loamchalice_filtered_pixels_to_ranged_temperatures(
+        calibration: Record, filtered: Filtered,
+        offsets0: *const i32, offsets0_length: usize, offsets1: *const i32, offsets1_length: usize,
+        alpha: *const f32, alpha_length: usize, k_v: *const f32, k_v_length: usize, k_ta: *const f32, k_ta_length: usize,
         pixels: *const u8, pixels_length: usize, mask: *const u8, mask_length: usize, destination: *mut u32, destination_length: usize,
     ) -> Answer;
     fn loamchalice_mlx90640_word_6_10_split(word: u16) -> SixTen;
@@ -258,27 +314,27 @@ extern "C" {
     fn loamchalice_mlx90640_chessboard_entry(pixel: usize) -> PixelEntry;
 }
 
-/// What both calls from pixels take.
-pub struct Reading<'a> {
+/// What a frame takes from a card.
+pub struct Camera<'a> {
     pub record: Record,
-    pub emissivity: f32,
-    pub resolution_correction: f32,
-    pub v_dd_0: f32,
-    pub ram: Ram,
-    pub subpage: u8,
     pub offsets: [&'a [i32]; 2],
+    pub alpha: &'a [f32],
     pub k_v: &'a [f32],
     pub k_ta: &'a [f32],
+}
+
+/// What a frame reads, and which pixels it is asked for.
+#[derive(Clone, Copy)]
+pub struct Pixels<'a> {
     pub pixels: &'a [u8],
     pub mask: &'a [u8],
 }
 
-/// What both calls to temperature take: the reflected temperature, or the self-heating where it is not given.
-pub struct Heat<'a> {
-    pub basic_range: usize,
-    pub given: bool,
-    pub reflected: f32,
-    pub alpha: &'a [f32],
+// A call of the archive: numbers as they are, then slices that it reads, then slices that it writes, each as its pointer and its length.
+macro_rules! call {
+    ($name:ident($($number:expr),*; $($read:expr),*; $($written:expr),*)) => {
+        unsafe { $name($($number,)* $($read.as_ptr(), $read.len(),)* $($written.as_mut_ptr(), $written.len()),*) }
+    };
 }
 
 pub fn root(x: f32) -> u32 {
@@ -294,11 +350,11 @@ pub fn check(word: u16) -> Word {
 }
 
 pub fn write(data: &[u16], others: &[u16], image: &mut [u8]) -> Outcome {
-    unsafe { loamchalice_write(data.as_ptr(), data.len(), others.as_ptr(), others.len(), image.as_mut_ptr(), image.len()) }
+    call!(loamchalice_write(; data, others; image))
 }
 
 pub fn read_words(image: &[u8], data: &mut [u16], others: &mut [u16]) -> Outcome {
-    unsafe { loamchalice_read_words(image.as_ptr(), image.len(), data.as_mut_ptr(), data.len(), others.as_mut_ptr(), others.len()) }
+    call!(loamchalice_read_words(; image; data, others))
 }
 
 pub fn alpha_row(image: &[u8], row: usize) -> Part {
@@ -318,27 +374,11 @@ pub fn burn(present: &mut [u8], wanted: &[u8]) -> Step {
 }
 
 pub fn scrub(image: &mut [u8], changed: &mut [u16], damaged: &mut [u16]) -> Scrub {
-    unsafe { loamchalice_scrub(image.as_mut_ptr(), image.len(), changed.as_mut_ptr(), changed.len(), damaged.as_mut_ptr(), damaged.len()) }
+    call!(loamchalice_scrub(;; image, changed, damaged))
 }
 
 pub fn load(image: &[u8], basic_range: usize, [zero, one]: [&mut [i32]; 2], alpha: &mut [f32], k_v: &mut [f32], k_ta: &mut [f32]) -> Load {
-    unsafe {
-        loamchalice_load(
-            image.as_ptr(),
-            image.len(),
-            basic_range,
-            zero.as_mut_ptr(),
-            zero.len(),
-            one.as_mut_ptr(),
-            one.len(),
-            alpha.as_mut_ptr(),
-            alpha.len(),
-            k_v.as_mut_ptr(),
-            k_v.len(),
-            k_ta.as_mut_ptr(),
-            k_ta.len(),
-        )
-    }
+    call!(loamchalice_load(image.as_ptr(), image.len(), basic_range;; zero, one, alpha, k_v, k_ta))
 }
 
 pub fn reader_new() -> Reader {
@@ -356,142 +396,30 @@ pub fn reader_take(
     k_v: &mut [f32],
     k_ta: &mut [f32],
 ) -> Taken {
-    unsafe {
-        loamchalice_reader_take(
-            image.as_mut_ptr(),
-            reader,
-            piece.as_ptr(),
-            piece.len(),
-            basic_range,
-            zero.as_mut_ptr(),
-            zero.len(),
-            one.as_mut_ptr(),
-            one.len(),
-            alpha.as_mut_ptr(),
-            alpha.len(),
-            k_v.as_mut_ptr(),
-            k_v.len(),
-            k_ta.as_mut_ptr(),
-            k_ta.len(),
-        )
-    }
+    call!(loamchalice_reader_take(image.as_mut_ptr(), reader, piece.as_ptr(), piece.len(), basic_range;; zero, one, alpha, k_v, k_ta))
 }
 
 pub fn reader_finished(reader: Reader) -> Reader {
     unsafe { loamchalice_reader_finished(reader) }
 }
 
-pub fn raw_pixels_to_ir_data(r: &Reading, destination: &mut [u32]) -> Answer {
-    let [zero, one] = r.offsets;
-    unsafe {
-        loamchalice_raw_pixels_to_ir_data(
-            r.record,
-            r.emissivity,
-            r.resolution_correction,
-            r.v_dd_0,
-            r.ram,
-            r.subpage,
-            zero.as_ptr(),
-            zero.len(),
-            one.as_ptr(),
-            one.len(),
-            r.k_v.as_ptr(),
-            r.k_v.len(),
-            r.k_ta.as_ptr(),
-            r.k_ta.len(),
-            r.pixels.as_ptr(),
-            r.pixels.len(),
-            r.mask.as_ptr(),
-            r.mask.len(),
-            destination.as_mut_ptr(),
-            destination.len(),
-        )
-    }
+pub fn raw_pixels_to_ir_data(c: &Camera, input: Input, p: Pixels, destination: &mut [u32]) -> Answer {
+    let [zero, one] = c.offsets;
+    call!(loamchalice_raw_pixels_to_ir_data(c.record, input; zero, one, c.k_v, c.k_ta, p.pixels, p.mask; destination))
 }
 
-pub fn raw_ir_to_temperatures(record: Record, emissivity: f32, t_a: f32, heat: &Heat, mask: &[u8], destination: &mut [u32]) -> Answer {
-    unsafe {
-        loamchalice_raw_ir_to_temperatures(
-            record,
-            emissivity,
-            t_a,
-            heat.basic_range,
-            heat.given.into(),
-            heat.reflected,
-            heat.alpha.as_ptr(),
-            heat.alpha.len(),
-            mask.as_ptr(),
-            mask.len(),
-            destination.as_mut_ptr(),
-            destination.len(),
-        )
-    }
+pub fn raw_ir_to_temperatures(c: &Camera, settings: Settings, t_a: f32, mask: &[u8], destination: &mut [u32]) -> Answer {
+    call!(loamchalice_raw_ir_to_temperatures(c.record, settings, t_a; c.alpha, mask; destination))
 }
 
-pub fn raw_pixels_to_temperatures(r: &Reading, heat: &Heat, destination: &mut [u32]) -> Answer {
-    let [zero, one] = r.offsets;
-    unsafe {
-        loamchalice_raw_pixels_to_temperatures(
-            r.record,
-            r.emissivity,
-            r.resolution_correction,
-            r.v_dd_0,
-            r.ram,
-            r.subpage,
-            heat.basic_range,
-            heat.given.into(),
-            heat.reflected,
-            zero.as_ptr(),
-            zero.len(),
-            one.as_ptr(),
-            one.len(),
-            heat.alpha.as_ptr(),
-            heat.alpha.len(),
-            r.k_v.as_ptr(),
-            r.k_v.len(),
-            r.k_ta.as_ptr(),
-            r.k_ta.len(),
-            r.pixels.as_ptr(),
-            r.pixels.len(),
-            r.mask.as_ptr(),
-            r.mask.len(),
-            destination.as_mut_ptr(),
-            destination.len(),
-        )
-    }
+pub fn raw_pixels_to_temperatures(c: &Camera, input: Input, p: Pixels, destination: &mut [u32]) -> Answer {
+    let [zero, one] = c.offsets;
+    call!(loamchalice_raw_pixels_to_temperatures(c.record, input; zero, one, c.alpha, c.k_v, c.k_ta, p.pixels, p.mask; destination))
 }
 
-pub fn raw_pixels_to_ranged_temperatures(r: &Reading, heat: &Heat, destination: &mut [u32]) -> Answer {
-    let [zero, one] = r.offsets;
-    unsafe {
-        loamchalice_raw_pixels_to_ranged_temperatures(
-            r.record,
-            r.emissivity,
-            r.resolution_correction,
-            r.v_dd_0,
-            r.ram,
-            r.subpage,
-            heat.basic_range,
-            heat.given.into(),
-            heat.reflected,
-            zero.as_ptr(),
-            zero.len(),
-            one.as_ptr(),
-            one.len(),
-            heat.alpha.as_ptr(),
-            heat.alpha.len(),
-            r.k_v.as_ptr(),
-            r.k_v.len(),
-            r.k_ta.as_ptr(),
-            r.k_ta.len(),
-            r.pixels.as_ptr(),
-            r.pixels.len(),
-            r.mask.as_ptr(),
-            r.mask.len(),
-            destination.as_mut_ptr(),
-            destination.len(),
-        )
-    }
+pub fn raw_pixels_to_ranged_temperatures(c: &Camera, input: Input, p: Pixels, destination: &mut [u32]) -> Answer {
+    let [zero, one] = c.offsets;
+    call!(loamchalice_raw_pixels_to_ranged_temperatures(c.record, input; zero, one, c.alpha, c.k_v, c.k_ta, p.pixels, p.mask; destination))
 }
 
 pub fn filter_new() -> Filter {
@@ -506,69 +434,19 @@ pub fn filter_average(filter: Filter) -> Average {
     unsafe { loamchalice_filter_average(filter) }
 }
 
-pub fn filtered_pixels_to_ir_data(r: &Reading, average: Option<f32>, destination: &mut [u32]) -> Answer {
-    let [zero, one] = r.offsets;
-    unsafe {
-        loamchalice_filtered_pixels_to_ir_data(
-            r.record,
-            r.emissivity,
-            r.resolution_correction,
-            r.v_dd_0,
-            r.ram,
-            average.is_some().into(),
-            average.unwrap_or(0.0),
-            r.subpage,
-            zero.as_ptr(),
-            zero.len(),
-            one.as_ptr(),
-            one.len(),
-            r.k_v.as_ptr(),
-            r.k_v.len(),
-            r.k_ta.as_ptr(),
-            r.k_ta.len(),
-            r.pixels.as_ptr(),
-            r.pixels.len(),
-            r.mask.as_ptr(),
-            r.mask.len(),
-            destination.as_mut_ptr(),
-            destination.len(),
-        )
-    }
+pub fn filtered_pixels_to_ir_data(c: &Camera, filtered: Filtered, p: Pixels, destination: &mut [u32]) -> Answer {
+    let [zero, one] = c.offsets;
+    call!(loamchalice_filtered_pixels_to_ir_data(c.record, filtered; zero, one, c.k_v, c.k_ta, p.pixels, p.mask; destination))
 }
 
-pub fn filtered_pixels_to_temperatures(r: &Reading, average: Option<f32>, heat: &Heat, destination: &mut [u32]) -> Answer {
-    let [zero, one] = r.offsets;
-    unsafe {
-        loamchalice_filtered_pixels_to_temperatures(
-            r.record,
-            r.emissivity,
-            r.resolution_correction,
-            r.v_dd_0,
-            r.ram,
-            average.is_some().into(),
-            average.unwrap_or(0.0),
-            r.subpage,
-            heat.basic_range,
-            heat.given.into(),
-            heat.reflected,
-            zero.as_ptr(),
-            zero.len(),
-            one.as_ptr(),
-            one.len(),
-            heat.alpha.as_ptr(),
-            heat.alpha.len(),
-            r.k_v.as_ptr(),
-            r.k_v.len(),
-            r.k_ta.as_ptr(),
-            r.k_ta.len(),
-            r.pixels.as_ptr(),
-            r.pixels.len(),
-            r.mask.as_ptr(),
-            r.mask.len(),
-            destination.as_mut_ptr(),
-            destination.len(),
-        )
-    }
+pub fn filtered_pixels_to_temperatures(c: &Camera, filtered: Filtered, p: Pixels, destination: &mut [u32]) -> Answer {
+    let [zero, one] = c.offsets;
+    call!(loamchalice_filtered_pixels_to_temperatures(c.record, filtered; zero, one, c.alpha, c.k_v, c.k_ta, p.pixels, p.mask; destination))
+}
+
+pub fn filtered_pixels_to_ranged_temperatures(c: &Camera, filtered: Filtered, p: Pixels, destination: &mut [u32]) -> Answer {
+    let [zero, one] = c.offsets;
+    call!(loamchalice_filtered_pixels_to_ranged_temperatures(c.record, filtered; zero, one, c.alpha, c.k_v, c.k_ta, p.pixels, p.mask; destination))
 }
 
 pub fn word_6_10_split(word: u16) -> SixTen {

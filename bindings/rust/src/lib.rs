@@ -15,23 +15,32 @@
 //! assert!(picture.iter().all(|t| (15.0..35.0).contains(t)));
 //! # Ok::<(), loamchalice::Refusal>(())
 //! ```
+//!
+//! Temperatures are degrees Celsius, supplies volts; what is read from RAM, and infrared numbers, are counts.
+//!
+//! A lamp box does not run where [`environment_is_default`] is false, since the calls assume the default floating-point environment (round to nearest, no flush
+//! to zero), or where [`Settings::warning`] or [`Calibration::gain_warning`] tells something; and it drops the lamp on any [`Refusal`] and any lost pixel.
 #![no_std]
 #![deny(missing_docs)]
 mod border;
 mod burning;
 mod card;
+mod environment;
 mod filter;
 pub mod mlx90640;
 mod reader;
 mod refusal;
 mod scrubbing;
+mod settings;
 
 pub use burning::{burn, next_step, Burnt, Step};
 pub use card::Card;
+pub use environment::environment_is_default;
 pub use filter::Filter;
 pub use reader::Reader;
 pub use refusal::Refusal;
 pub use scrubbing::{scrub, Scrubbed};
+pub use settings::{resolution_correction, Settings};
 
 /// A mask that asks for every pixel.
 pub const ALL_PIXELS: [bool; 192] = [true; 192];
@@ -45,7 +54,7 @@ pub enum Subpage {
     One,
 }
 
-/// What a frame reads from the camera's RAM beside its pixels.
+/// What a frame reads from the camera's RAM beside its pixels, in counts.
 #[derive(Clone, Copy, Debug, PartialEq, Eq)]
 pub struct RamData {
     /// V_BE, beside PTAT in the ambient temperature.
@@ -60,76 +69,18 @@ pub struct RamData {
     pub compensation_pixel: i16,
 }
 
-/// The caller's numbers. [`Calibration::settings`] makes them from a card, as mlx9064x's driver does; the defaults are for a card of emissivity 1 that was
-/// written at the camera's current resolution.
-#[derive(Clone, Copy, Debug, PartialEq)]
-pub struct Settings {
-    /// Of the body that is looked at, above 0 and at most 1. The calls refuse 0 and not-a-number alone: 95 for 0.95, -1 or infinity give cold, good-looking
-    /// answers. See [`Settings::warning`].
-    pub emissivity: f32,
-    /// See [`resolution_correction`].
-    pub resolution_correction: f32,
-    /// The nominal supply.
-    pub v_dd_0: f32,
-    /// 0 to 7.
-    pub basic_range: usize,
-    /// What the ambient temperature loses to stand for the reflected one, where that is not given.
-    pub self_heating: f32,
-    /// The reflected temperature, if it is known.
-    pub reflected: Option<f32>,
-}
-
-impl Default for Settings {
-    fn default() -> Self {
-        Settings { emissivity: 1.0, resolution_correction: 1.0, v_dd_0: 3.3, basic_range: BASIC_RANGE, self_heating: 5.0, reflected: None }
-    }
-}
-
-impl Settings {
-    /// What looks wrong in these numbers, though no call refuses it. A lamp box should not run with a warning.
-    ///
-    /// ```
-    /// use loamchalice::Settings;
-    /// assert_eq!(Settings::default().warning(), None);
-    /// assert!(Settings { emissivity: 95.0, ..Settings::default() }.warning().is_some());
-    /// ```
-    pub fn warning(&self) -> Option<&'static str> {
-        if !(self.emissivity > 0.0 && self.emissivity <= 1.0) {
-            return Some("the emissivity is not above 0 and at most 1");
-        }
-        if !(self.resolution_correction > 0.0 && self.resolution_correction.is_finite()) {
-            return Some("the resolution correction is no positive number");
-        }
-        if !(self.v_dd_0.is_finite() && self.self_heating.is_finite() && self.reflected.unwrap_or(0.0).is_finite()) {
-            return Some("the nominal supply, the self-heating or the reflected temperature is no number");
-        }
-        None
-    }
-}
-
 /// The camera's basic temperature range, by mlx9064x.
 pub const BASIC_RANGE: usize = 2;
 
 /// What a frame gives beside its pixels.
 #[derive(Clone, Copy, Debug, PartialEq)]
 pub struct Frame {
-    /// The ambient temperature: the camera's own.
+    /// The ambient temperature, the camera's own, in degrees Celsius.
     pub t_a: f32,
     /// How many pixels this call wrote: those that the mask asks for.
     pub written: usize,
-    /// How many of them as not a number.
+    /// How many of them as NaN.
     pub lost: usize,
-}
-
-/// 2 to the power of the card's resolution less the camera's current one, each 0 to 3: what a reading of the supply is worth where the camera does not read
-/// as the card was written.
-///
-/// ```
-/// assert_eq!(loamchalice::resolution_correction(2, 3), 0.5);
-/// ```
-pub fn resolution_correction(calibrated: u8, current: u8) -> f32 {
-    let step = if calibrated < current { 0.5 } else { 2.0 };
-    (0..calibrated.abs_diff(current)).fold(1.0, |power, _| power * step)
 }
 
 /// The chip word of 11 bits of data. Refusal 9.
@@ -244,7 +195,7 @@ pub fn subpage_offsets<'a>(zero: &'a [i32], one: &'a [i32], subpage: Subpage) ->
     &table[part.start..part.start + part.length]
 }
 
-/// The fourth root: two square roots, each the nearest f32. Both infinities give infinity, a number below zero gives not a number.
+/// The fourth root: two square roots, each the nearest f32. Both infinities give infinity, a number below zero gives NaN.
 ///
 /// ```
 /// assert_eq!(loamchalice::fourth_root(81.0), 3.0);
@@ -253,15 +204,28 @@ pub fn fourth_root(x: f32) -> f32 {
     f32::from_bits(border::root(x))
 }
 
-/// A card's record and tables.
+/// The tables of a card.
 #[derive(Clone, Debug)]
-pub struct Calibration {
-    record: border::Record,
-    mended: Mended,
+struct Tables {
     offsets: [[i32; 192]; 2],
     alpha: [f32; 192],
     k_v: [f32; 192],
     k_ta: [f32; 192],
+}
+
+impl Tables {
+    fn new() -> Self {
+        Tables { offsets: [[0; 192]; 2], alpha: [0.0; 192], k_v: [0.0; 192], k_ta: [0.0; 192] }
+    }
+}
+
+/// A card's record and tables, and the basic range that it was loaded with.
+#[derive(Clone, Debug)]
+pub struct Calibration {
+    record: border::Record,
+    mended: Mended,
+    basic_range: usize,
+    tables: Tables,
 }
 
 impl Calibration {
@@ -286,19 +250,19 @@ impl Calibration {
     /// # Ok::<(), Refusal>(())
     /// ```
     pub fn from_data_in(image: &[u8], basic_range: usize) -> Result<Self, Refusal> {
-        let (mut offsets, mut alpha, mut k_v, mut k_ta) = ([[0; 192]; 2], [0.0; 192], [0.0; 192], [0.0; 192]);
-        let [zero, one] = &mut offsets;
-        let loaded = border::load(image, basic_range, [zero, one], &mut alpha, &mut k_v, &mut k_ta);
-        Self::of(loaded, offsets, alpha, k_v, k_ta)
+        let mut tables = Tables::new();
+        let Tables { offsets: [zero, one], alpha, k_v, k_ta } = &mut tables;
+        let loaded = border::load(image, basic_range, [zero, one], alpha, k_v, k_ta);
+        Self::of(loaded, basic_range, tables)
     }
 
-    // What a load answers, with the tables that it has filled.
-    fn of(loaded: border::Load, offsets: [[i32; 192]; 2], alpha: [f32; 192], k_v: [f32; 192], k_ta: [f32; 192]) -> Result<Self, Refusal> {
+    // What a load with this basic range answers, with the tables that it has filled.
+    fn of(loaded: border::Load, basic_range: usize, tables: Tables) -> Result<Self, Refusal> {
         match Refusal::of(loaded.number, loaded.place, loaded.value) {
             Some(refusal) => Err(refusal),
             None => {
                 let mended = Mended { count: loaded.mended, last: (loaded.mended != 0).then_some(loaded.last_mended) };
-                Ok(Calibration { record: loaded.calibration, mended, offsets, alpha, k_v, k_ta })
+                Ok(Calibration { record: loaded.calibration, mended, basic_range, tables })
             }
         }
     }
@@ -313,19 +277,44 @@ impl Calibration {
         self.record.resolution
     }
 
-    /// Settings for this card: its own emissivity, and the resolution correction for the camera's current resolution, 0 to 3, which stands in bits 10 and 11 of
-    /// its control register (2 after power-on).
+    /// The basic range that the card was loaded with.
+    pub fn basic_range(&self) -> usize {
+        self.basic_range
+    }
+
+    /// Settings for this card: its own emissivity, the basic range that it was loaded with, and the resolution correction for the camera's current resolution,
+    /// 0 to 3, which stands in bits 10 and 11 of its control register (2 after power-on).
     ///
     /// ```
     /// use loamchalice::Calibration;
-    /// let camera = Calibration::from_data(include_bytes!("../../../cards/sound.bin"))?;
+    /// let camera = Calibration::from_data_in(include_bytes!("../../../cards/sound.bin"), 3)?;
     /// let settings = camera.settings(2);
     /// assert_eq!(settings.emissivity, camera.emissivity());
+    /// assert_eq!(settings.basic_range, 3);
     /// assert_eq!(settings.resolution_correction, loamchalice::resolution_correction(camera.resolution(), 2));
     /// # Ok::<(), loamchalice::Refusal>(())
     /// ```
     pub fn settings(&self, current_resolution: u8) -> Settings {
-        Settings { emissivity: self.emissivity(), resolution_correction: resolution_correction(self.resolution(), current_resolution), ..Settings::default() }
+        let resolution_correction = resolution_correction(self.resolution(), current_resolution);
+        Settings { emissivity: self.emissivity(), resolution_correction, basic_range: self.basic_range, ..Settings::default() }
+    }
+
+    /// What looks wrong between this card and the RAM of a frame: gains more than a quarter apart, as from a half-burnt card or another camera's. No call
+    /// refuses it. Ask with each frame.
+    ///
+    /// ```
+    /// use loamchalice::{Calibration, RamData};
+    /// let ram = RamData { t_a_v_be: 19442, t_a_ptat: 1711, v_dd_pixel: -13115, gain: 6391, compensation_pixel: -105 };
+    /// let sound = Calibration::from_data(include_bytes!("../../../cards/sound.bin"))?; // a gain of 6383
+    /// assert_eq!(sound.gain_warning(ram), None);
+    /// let half = Calibration::from_data(include_bytes!("../../../cards/half.bin"))?; // a gain of 16
+    /// assert!(half.gain_warning(ram).is_some());
+    /// # Ok::<(), loamchalice::Refusal>(())
+    /// ```
+    pub fn gain_warning(&self, ram: RamData) -> Option<&'static str> {
+        let (card, read) = (self.gain(), f32::from(ram.gain));
+        let near = card.is_finite() && card > 0.0 && read >= 0.75 * card && read <= 1.25 * card;
+        (!near).then_some("the gain in RAM is far from the card's")
     }
 
     /// The emissivity on the card. No call uses it by itself.
@@ -345,17 +334,17 @@ impl Calibration {
         self
     }
 
-    /// The gain on the card, which a frame's own is compared with.
+    /// The gain on the card, in counts, by which a frame's own is corrected.
     pub fn gain(&self) -> f32 {
         self.record.gain
     }
 
-    /// K_VDD, by which the supply reading is divided.
+    /// K_VDD, by which the supply reading is divided: counts per volt.
     pub fn k_v_dd(&self) -> i16 {
         self.record.k_v_dd
     }
 
-    /// The supply reading at 25 degrees.
+    /// The supply reading at 25 degrees, in counts.
     pub fn v_dd_25(&self) -> i16 {
         self.record.v_dd_25
     }
@@ -412,15 +401,15 @@ impl Calibration {
 
     /// K_V of the pixels.
     pub fn k_v_pixels(&self) -> &[f32; 192] {
-        &self.k_v
+        &self.tables.k_v
     }
 
     /// K_Ta of the pixels.
     pub fn k_ta_pixels(&self) -> &[f32; 192] {
-        &self.k_ta
+        &self.tables.k_ta
     }
 
-    /// The corner temperatures of the eight ranges.
+    /// The corner temperatures of the eight ranges, in degrees Celsius.
     pub fn corner_temperatures(&self) -> &[i16; 8] {
         &self.record.corner_temperatures
     }
@@ -432,12 +421,12 @@ impl Calibration {
 
     /// The offsets of a subpage.
     pub fn offset_reference_pixels(&self, subpage: Subpage) -> &[i32; 192] {
-        &self.offsets[subpage as usize]
+        &self.tables.offsets[subpage as usize]
     }
 
     /// The sensitivities of the pixels.
     pub fn alpha_pixels(&self) -> &[f32; 192] {
-        &self.alpha
+        &self.tables.alpha
     }
 
     /// Pixels, two bytes each and the upper first, to infrared numbers. A pixel whose mask is false stays as it was. Refusals 10, 7, 8; arrays of
@@ -451,16 +440,15 @@ impl Calibration {
         valid_pixels: &[bool],
         destination: &mut [f32],
     ) -> Result<Frame, Refusal> {
-        let reading = self.reading(settings, ram, subpage, pixels, valid_pixels);
-        answered(border::raw_pixels_to_ir_data(&reading, as_bits(destination)), valid_pixels)
+        let answer = border::raw_pixels_to_ir_data(&self.lent(), input(settings, ram, subpage), lent(pixels, valid_pixels), as_bits(destination));
+        answered(answer, valid_pixels)
     }
 
     /// Infrared numbers to temperatures, in place, for the ambient temperature that the infrared call gave. A pixel whose mask is false stays as
     /// it was. Refusals 10, 6, 8.
     pub fn raw_ir_to_temperatures(&self, settings: &Settings, t_a: f32, valid_pixels: &[bool], destination: &mut [f32]) -> Result<Frame, Refusal> {
-        let heat = self.heat(settings);
-        let mask = as_bytes(valid_pixels);
-        answered(border::raw_ir_to_temperatures(self.record, settings.emissivity, t_a, &heat, mask, as_bits(destination)), valid_pixels)
+        let answer = border::raw_ir_to_temperatures(&self.lent(), settings.lent(), t_a, as_bytes(valid_pixels), as_bits(destination));
+        answered(answer, valid_pixels)
     }
 
     /// A whole frame in one pass: the temperatures of all 192 pixels. Refusals 6, 7, 8.
@@ -489,13 +477,13 @@ impl Calibration {
         valid_pixels: &[bool],
         destination: &mut [f32],
     ) -> Result<Frame, Refusal> {
-        let reading = self.reading(settings, ram, subpage, pixels, valid_pixels);
-        answered(border::raw_pixels_to_temperatures(&reading, &self.heat(settings), as_bits(destination)), valid_pixels)
+        let answer = border::raw_pixels_to_temperatures(&self.lent(), input(settings, ram, subpage), lent(pixels, valid_pixels), as_bits(destination));
+        answered(answer, valid_pixels)
     }
 
     /// The second pass, for scenes beyond the basic range: each pixel's basic temperature is worked out as in one pass, and its temperature from that with
-    /// the numbers of the range that holds it. Refusals 10, 6, 7, 8, 12. [`Calibration::from_data`] and [`Calibration::from_data_in`] make the coefficients of
-    /// the basic range that a card is loaded with; use the same one in the settings.
+    /// the numbers of the range that holds it. Refusals 10, 6, 7, 8, 12. The coefficients are those of the basic range that the card was loaded with;
+    /// [`Calibration::settings`] has the same one.
     ///
     /// ```
     /// use loamchalice::{Calibration, RamData, Settings, Subpage, ALL_PIXELS};
@@ -517,11 +505,11 @@ impl Calibration {
         valid_pixels: &[bool],
         destination: &mut [f32],
     ) -> Result<Frame, Refusal> {
-        let reading = self.reading(settings, ram, subpage, pixels, valid_pixels);
-        answered(border::raw_pixels_to_ranged_temperatures(&reading, &self.heat(settings), as_bits(destination)), valid_pixels)
+        let answer = border::raw_pixels_to_ranged_temperatures(&self.lent(), input(settings, ram, subpage), lent(pixels, valid_pixels), as_bits(destination));
+        answered(answer, valid_pixels)
     }
 
-    /// [`Calibration::raw_pixels_to_ir_data`] with what a [`Filter`] answers; `None` is that call. An average that is not a number refuses nothing: with a
+    /// [`Calibration::raw_pixels_to_ir_data`] with what a [`Filter`] answers; `None` is that call. An average that is NaN refuses nothing: with a
     /// gradient every pixel asked for is lost.
     #[allow(clippy::too_many_arguments)]
     pub fn filtered_pixels_to_ir_data(
@@ -534,11 +522,12 @@ impl Calibration {
         valid_pixels: &[bool],
         destination: &mut [f32],
     ) -> Result<Frame, Refusal> {
-        let reading = self.reading(settings, ram, subpage, pixels, valid_pixels);
-        answered(border::filtered_pixels_to_ir_data(&reading, average, as_bits(destination)), valid_pixels)
+        let answer =
+            border::filtered_pixels_to_ir_data(&self.lent(), filtered(settings, ram, average, subpage), lent(pixels, valid_pixels), as_bits(destination));
+        answered(answer, valid_pixels)
     }
 
-    /// [`Calibration::raw_pixels_to_temperatures`] with what a [`Filter`] answers; as above.
+    /// [`Calibration::raw_pixels_to_temperatures`] with what a [`Filter`] answers; `None` is that call.
     ///
     /// ```
     /// use loamchalice::{Calibration, Filter, RamData, Settings, Subpage, ALL_PIXELS};
@@ -561,36 +550,51 @@ impl Calibration {
         valid_pixels: &[bool],
         destination: &mut [f32],
     ) -> Result<Frame, Refusal> {
-        let reading = self.reading(settings, ram, subpage, pixels, valid_pixels);
-        answered(border::filtered_pixels_to_temperatures(&reading, average, &self.heat(settings), as_bits(destination)), valid_pixels)
+        let answer =
+            border::filtered_pixels_to_temperatures(&self.lent(), filtered(settings, ram, average, subpage), lent(pixels, valid_pixels), as_bits(destination));
+        answered(answer, valid_pixels)
     }
 
-    fn reading<'a>(&'a self, settings: &Settings, ram: RamData, subpage: Subpage, pixels: &'a [u8], valid_pixels: &'a [bool]) -> border::Reading<'a> {
-        let RamData { t_a_v_be, t_a_ptat, v_dd_pixel, gain, compensation_pixel } = ram;
-        let [zero, one] = &self.offsets;
-        border::Reading {
-            record: self.record,
-            emissivity: settings.emissivity,
-            resolution_correction: settings.resolution_correction,
-            v_dd_0: settings.v_dd_0,
-            ram: border::Ram { t_a_v_be, t_a_ptat, v_dd_pixel, gain, compensation_pixel },
-            subpage: subpage as u8,
-            offsets: [zero, one],
-            k_v: &self.k_v,
-            k_ta: &self.k_ta,
-            pixels,
-            mask: as_bytes(valid_pixels),
-        }
+    /// [`Calibration::raw_pixels_to_ranged_temperatures`] with what a [`Filter`] answers; `None` is that call.
+    #[allow(clippy::too_many_arguments)]
+    pub fn filtered_pixels_to_ranged_temperatures(
+        &self,
+        settings: &Settings,
+        ram: RamData,
+        average: Option<f32>,
+        subpage: Subpage,
+        pixels: &[u8],
+        valid_pixels: &[bool],
+        destination: &mut [f32],
+    ) -> Result<Frame, Refusal> {
+        let answer = border::filtered_pixels_to_ranged_temperatures(
+            &self.lent(),
+            filtered(settings, ram, average, subpage),
+            lent(pixels, valid_pixels),
+            as_bits(destination),
+        );
+        answered(answer, valid_pixels)
     }
 
-    fn heat(&self, settings: &Settings) -> border::Heat<'_> {
-        border::Heat {
-            basic_range: settings.basic_range,
-            given: settings.reflected.is_some(),
-            reflected: settings.reflected.unwrap_or(settings.self_heating),
-            alpha: &self.alpha,
-        }
+    fn lent(&self) -> border::Camera<'_> {
+        let Tables { offsets: [zero, one], alpha, k_v, k_ta } = &self.tables;
+        border::Camera { record: self.record, offsets: [zero, one], alpha, k_v, k_ta }
     }
+}
+
+fn input(settings: &Settings, ram: RamData, subpage: Subpage) -> border::Input {
+    let RamData { t_a_v_be, t_a_ptat, v_dd_pixel, gain, compensation_pixel } = ram;
+    let ram = border::Ram { t_a_v_be, t_a_ptat, v_dd_pixel, gain, compensation_pixel };
+    border::Input { settings: settings.lent(), ram, subpage: subpage as u8 }
+}
+
+fn filtered(settings: &Settings, ram: RamData, average: Option<f32>, subpage: Subpage) -> border::Filtered {
+    let compensation = border::Average { average: average.unwrap_or(0.0), ready: average.is_some().into() };
+    border::Filtered { input: input(settings, ram, subpage), compensation }
+}
+
+fn lent<'a>(pixels: &'a [u8], valid_pixels: &'a [bool]) -> border::Pixels<'a> {
+    border::Pixels { pixels, mask: as_bytes(valid_pixels) }
 }
 
 // A bool is a byte, 0 or 1.

@@ -1,7 +1,7 @@
-use crate::{border, Calibration, Refusal, BASIC_RANGE};
+use crate::{border, Calibration, Refusal, Tables, BASIC_RANGE};
 
-/// A card as it arrives over a bus, in pieces of any length. A damaged word is told on the piece that completes it, all else with the last of 1,664 bytes; however it
-/// is cut, a whole card ends as [`Calibration::from_data`] does. Once ended, every call repeats the answer.
+/// A card as it arrives over a bus, in pieces of any length. A damaged word is told on the piece that completes it, all else with the last of 1,664
+/// bytes; however it is cut, a whole card ends as [`Calibration::from_data`] does. An empty piece changes nothing. Once ended, every call repeats the answer.
 ///
 /// ```
 /// use loamchalice::{Calibration, Reader, Refusal};
@@ -22,27 +22,29 @@ use crate::{border, Calibration, Refusal, BASIC_RANGE};
 pub struct Reader {
     image: [u8; 1664],
     state: border::Reader,
-    offsets: [[i32; 192]; 2],
-    alpha: [f32; 192],
-    k_v: [f32; 192],
-    k_ta: [f32; 192],
+    // of the last piece while more were wanted
+    basic_range: usize,
+    tables: Tables,
 }
 
 impl Reader {
     /// Before the first byte.
     pub fn new() -> Self {
-        Reader { image: [0; 1664], state: border::reader_new(), offsets: [[0; 192]; 2], alpha: [0.0; 192], k_v: [0.0; 192], k_ta: [0.0; 192] }
+        Reader { image: [0; 1664], state: border::reader_new(), basic_range: BASIC_RANGE, tables: Tables::new() }
     }
 
-    /// Takes a piece: `None` while more is wanted. Refusals 3, 4.
+    /// Takes a piece: `None` while more is wanted, else the loaded card. Refusals 3, 4.
     pub fn take(&mut self, piece: &[u8]) -> Result<Option<Calibration>, Refusal> {
         self.take_in(piece, BASIC_RANGE)
     }
 
     /// Takes a piece; the basic range that comes with the last byte is the card's. Refusals 3, 4, 6, 13.
     pub fn take_in(&mut self, piece: &[u8], basic_range: usize) -> Result<Option<Calibration>, Refusal> {
-        let [zero, one] = &mut self.offsets;
-        let taken = border::reader_take(&mut self.image, self.state, piece, basic_range, [zero, one], &mut self.alpha, &mut self.k_v, &mut self.k_ta);
+        if self.state.ended == 0 {
+            self.basic_range = basic_range;
+        }
+        let Tables { offsets: [zero, one], alpha, k_v, k_ta } = &mut self.tables;
+        let taken = border::reader_take(&mut self.image, self.state, piece, basic_range, [zero, one], alpha, k_v, k_ta);
         self.state = taken.reader;
         if self.state.ended == 0 {
             return Ok(None);
@@ -57,7 +59,7 @@ impl Reader {
     }
 
     fn answer(&self, answer: border::Load) -> Result<Calibration, Refusal> {
-        Calibration::of(answer, self.offsets, self.alpha, self.k_v, self.k_ta)
+        Calibration::of(answer, self.basic_range, self.tables.clone())
     }
 }
 

@@ -1,7 +1,8 @@
 use core::error::Error;
 use core::fmt;
 
-/// What stops a call, before it has written anything. Lowest number first where there are several, but for 10, which comes after 2.
+/// What stops a call, before it has written anything; a [`Reader`](crate::Reader) alone keeps the bytes of the piece. Lowest number first where there are
+/// several, but for 10, which comes after 2.
 #[derive(Clone, Copy, Debug, PartialEq, Eq)]
 pub enum Refusal {
     /// 1: the image is below 1,664 bytes.
@@ -30,7 +31,7 @@ pub enum Refusal {
     },
     /// 7: the supply reading is too far from its reference.
     SupplyRange,
-    /// 8: a divisor is zero, or the emissivity is zero or not a number.
+    /// 8: a divisor is zero, or the emissivity is zero or NaN.
     ZeroDivisor,
     /// 9: data to encode is above 2047.
     DataTooLarge {
@@ -59,7 +60,7 @@ pub enum Refusal {
         /// The first such corner.
         corner: usize,
     },
-    /// 13: what this range's coefficient is divided by is zero.
+    /// 13: what this range's coefficient is divided by is zero. Never with a basic range of 4 or less.
     ZeroFactor {
         /// The nearest below the basic range.
         range: usize,
@@ -150,7 +151,7 @@ impl fmt::Display for Refusal {
             Refusal::OffsetScale { scale } => write!(f, "the offset scale is {scale}, above 20"),
             Refusal::BasicRange { range } => write!(f, "there is no basic range {range}, only 0 to 7"),
             Refusal::SupplyRange => write!(f, "the supply reading is too far from its reference"),
-            Refusal::ZeroDivisor => write!(f, "a divisor is zero, or the emissivity is zero or not a number"),
+            Refusal::ZeroDivisor => write!(f, "a divisor is zero, or the emissivity is zero or NaN"),
             Refusal::DataTooLarge { data } => write!(f, "{data} is above 2047"),
             Refusal::ListedDataTooLarge { index, data } => write!(f, "entry {index} of the data is {data}, above 2047"),
             Refusal::ShortFrame { length } => write!(f, "{length} is too short for a frame's pixel bytes, destination or mask"),

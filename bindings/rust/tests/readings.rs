@@ -1,5 +1,5 @@
 //! Readings of document 01 through the binding.
-use loamchalice::{burn, next_step, scrub, Burnt, Calibration, Card, Filter, RamData, Reader, Refusal, Settings, Subpage, ALL_PIXELS};
+use loamchalice::{burn, environment_is_default, next_step, scrub, Burnt, Calibration, Card, Filter, RamData, Reader, Refusal, Settings, Subpage, ALL_PIXELS};
 
 const SOUND: &[u8] = include_bytes!("../../../cards/sound.bin");
 const ROOM: RamData = RamData { t_a_v_be: 19442, t_a_ptat: 1711, v_dd_pixel: -13115, gain: 6391, compensation_pixel: -105 };
@@ -189,22 +189,23 @@ fn an_average_stands_where_the_reading_stood() {
     let camera = Calibration::from_data(SOUND).unwrap();
     let settings = Settings { emissivity: 0.9, reflected: Some(21.0), ..Settings::default() };
     let pixels = [0xFD, 0x94].repeat(192);
-    let plain = |reading: i16, temperatures: bool| {
+    let plain = |reading: i16, call: usize| {
         let (ram, mut picture) = (RamData { compensation_pixel: reading, ..ROOM }, [0f32; 192]);
-        let call = if temperatures { Calibration::raw_pixels_to_temperatures } else { Calibration::raw_pixels_to_ir_data };
-        (call(&camera, &settings, ram, Subpage::One, &pixels, &ALL_PIXELS, &mut picture), picture.map(f32::to_bits))
+        let calls = [Calibration::raw_pixels_to_ir_data, Calibration::raw_pixels_to_temperatures, Calibration::raw_pixels_to_ranged_temperatures];
+        (calls[call](&camera, &settings, ram, Subpage::One, &pixels, &ALL_PIXELS, &mut picture), picture.map(f32::to_bits))
     };
-    let filtered = |average: Option<f32>, temperatures: bool| {
+    let filtered = |average: Option<f32>, call: usize| {
         let mut picture = [0f32; 192];
-        let call = if temperatures { Calibration::filtered_pixels_to_temperatures } else { Calibration::filtered_pixels_to_ir_data };
-        (call(&camera, &settings, ROOM, average, Subpage::One, &pixels, &ALL_PIXELS, &mut picture), picture.map(f32::to_bits))
+        let calls =
+            [Calibration::filtered_pixels_to_ir_data, Calibration::filtered_pixels_to_temperatures, Calibration::filtered_pixels_to_ranged_temperatures];
+        (calls[call](&camera, &settings, ROOM, average, Subpage::One, &pixels, &ALL_PIXELS, &mut picture), picture.map(f32::to_bits))
     };
-    for temperatures in [false, true] {
-        assert_eq!(filtered(None, temperatures), plain(ROOM.compensation_pixel, temperatures));
+    for call in 0..3 {
+        assert_eq!(filtered(None, call), plain(ROOM.compensation_pixel, call));
         for reading in [-32768, -1, 0, 99, 32767] {
-            assert_eq!(filtered(Some(f32::from(reading)), temperatures), plain(reading, temperatures));
+            assert_eq!(filtered(Some(f32::from(reading)), call), plain(reading, call));
         }
-        assert_ne!(filtered(Some(-105.5), temperatures).1, plain(-105, temperatures).1);
+        assert_ne!(filtered(Some(-105.5), call).1, plain(-105, call).1);
     }
 }
 
@@ -263,4 +264,90 @@ fn a_card_in_pieces_ends_as_a_load() {
             }
         }
     }
+}
+
+// The basic range is that of the last byte, whatever later calls say.
+#[test]
+fn settings_have_the_basic_range_of_the_card() {
+    assert_eq!(Calibration::from_data(SOUND).unwrap().settings(2).basic_range, 2);
+    let loaded = Calibration::from_data_in(SOUND, 3).unwrap();
+    assert_eq!((loaded.basic_range(), loaded.settings(2).basic_range), (3, 3));
+    let mut reader = Reader::new();
+    assert!(reader.take_in(&SOUND[..1000], 7).unwrap().is_none());
+    assert_eq!(reader.take_in(&SOUND[1000..], 3).unwrap().unwrap().basic_range(), 3);
+    assert_eq!(reader.take_in(&[1], 5).unwrap().unwrap().basic_range(), 3);
+    assert_eq!(reader.finished().unwrap().basic_range(), 3);
+}
+
+#[test]
+fn odd_numbers_are_told() {
+    let usual = Settings::default();
+    for emissivity in [95.0, -1.0, 0.0, f32::INFINITY, f32::NAN] {
+        assert!(Settings { emissivity, ..usual }.warning().is_some());
+    }
+    for odd in [-3.0, 0.0, f32::INFINITY, f32::NAN] {
+        assert!(Settings { v_dd_0: odd, ..usual }.warning().is_some());
+        assert!(Settings { resolution_correction: odd, ..usual }.warning().is_some());
+    }
+    for basic_range in [8, 9, usize::MAX] {
+        assert!(Settings { basic_range, ..usual }.warning().is_some());
+    }
+    for (reflected, told) in [(-273.15, false), (-273.2, true), (-400.0, true), (f32::NAN, true), (f32::INFINITY, true), (300.0, false)] {
+        assert_eq!(Settings { reflected: Some(reflected), ..usual }.warning().is_some(), told);
+    }
+    // What is not looked at is not told of.
+    let heated = Settings { self_heating: f32::NAN, ..usual };
+    assert!(heated.warning().is_some() && Settings { reflected: Some(20.0), ..heated }.warning().is_none());
+}
+
+#[test]
+fn gains_that_are_far_apart_are_told() {
+    let sound = Calibration::from_data(SOUND).unwrap();
+    for (gain, told) in [(6383, false), (4788, false), (4787, true), (7978, false), (7979, true), (0, true), (-6383, true), (i16::MAX, true)] {
+        assert_eq!(sound.gain_warning(RamData { gain, ..ROOM }).is_some(), told, "{gain}");
+    }
+    let wiped = Calibration::from_data(&[0; 1664]).unwrap();
+    assert!(wiped.gain_warning(RamData { gain: 0, ..ROOM }).is_some());
+}
+
+// The control word of this thread with some bits set, around the question.
+#[cfg(any(target_arch = "x86_64", target_arch = "aarch64"))]
+fn default_with(bits: u64) -> bool {
+    use std::arch::asm;
+    let mut usual: u64 = 0;
+    #[cfg(target_arch = "x86_64")]
+    unsafe {
+        asm!("stmxcsr [{}]", in(reg) &mut usual);
+        asm!("ldmxcsr [{}]", in(reg) &(usual | bits));
+    }
+    #[cfg(target_arch = "aarch64")]
+    unsafe {
+        asm!("mrs {}, fpcr", out(reg) usual);
+        asm!("msr fpcr, {}", in(reg) usual | bits);
+    }
+    let answer = std::hint::black_box(environment_is_default as fn() -> bool)();
+    #[cfg(target_arch = "x86_64")]
+    unsafe {
+        asm!("ldmxcsr [{}]", in(reg) &usual);
+    }
+    #[cfg(target_arch = "aarch64")]
+    unsafe {
+        asm!("msr fpcr, {}", in(reg) usual);
+    }
+    answer
+}
+
+// Rounding down, up and to zero, and flushing results or operands; on Arm one bit flushes both.
+#[cfg(any(target_arch = "x86_64", target_arch = "aarch64"))]
+#[test]
+fn another_environment_is_told() {
+    let (odd, shift): (&[u64], u32) = if cfg!(target_arch = "x86_64") { (&[0x8000, 0x0040], 13) } else { (&[1 << 24], 22) };
+    assert!(environment_is_default() && default_with(0));
+    for mode in 1..4 {
+        assert!(!default_with(mode << shift), "rounding mode {mode}");
+    }
+    for flush in odd {
+        assert!(!default_with(*flush), "{flush:#x}");
+    }
+    assert!(environment_is_default());
 }

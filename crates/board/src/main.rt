@@ -3,11 +3,11 @@
 // served by a buffer of 4,096 bytes that is read until it is full or the input ends; what follows is not read.
 // On standard error a refusal is told as `refused` with number, place and value. Where reading or writing fails it has `failed`; of input that
 // failed nothing goes to standard output.
-use board_lines::BASIC_RANGE;
 use board_lines::end_line;
 use board_lines::load_line;
 use eeprom::Loaded;
 use libc::STDIN_FILENO;
+use map::BASIC_RANGE;
 use map::IMAGE_BYTES;
 use offsets::Offset;
 

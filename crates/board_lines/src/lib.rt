@@ -3,9 +3,6 @@ use console::put;
 use console::tab_number;
 use eeprom::Loaded;
 
-// The camera's basic temperature range, by the crate.
-pub const BASIC_RANGE: usize = 2;
-
 // The refusal's number, place and value, and how many words were mended.
 pub fn answer(loaded: Loaded) -> bool {
     let verdict = loaded.verdict;

@@ -1,67 +1,48 @@
--- What the code lifts out of the pixels is what the calls say; and from its parts, what a call says. Assumes nothing.
-use Prim.Native.Nat.{ℕ}
-use mathlib.Core.Path.{_≡_, ap, ap₂, _∙_, subst, fun-ext}
+-- The MLX90641's call from pixels is any camera's with its numbers: below 192 each pixel has its own K_V, and the access term is 0. Assumes nothing.
+use Prim.Native.Nat.{ℕ, min}
+use mathlib.Core.Path.{_≡_, refl}
 use mathlib.Core.List.{List}
-use lib.Dec.{T}
-use lib.ListN.{getD}
-use lib.IntN.{ℤ}
-use lib.Ieee.{Float, nan, binary32, fits, toBits}
-use Rattle.refusal.specs.declared.Refusal.{Refusal}
-use Rattle.refusal.specs.declared.Verdict.{Verdict}
-use Rattle.refusal.specs.declared.Verdict.the-variants as Verdict
+use lib.IntN.{ℤ, pos}
+use lib.ListN.{getD, length, replicate}
+use lib.Ieee.{Float, nan}
+use Rattle.floats.specs.Floats.{real}
+use Rattle.floats.specs.Constants.{plusZero}
+use Rattle.roots.specs.Many.{side}
+use Rattle.calibration.specs.declared.Calibration.{Calibration}
+use Rattle.calibration.specs.Coefficients.{rangeCount}
 use Rattle.eeprom.specs.Parts.{offsetsOf}
-use Rattle.formulas.specs.declared.CommonIrData.{CommonIrData}
-use Rattle.formulas.specs.declared.CommonToData.{CommonToData}
-use Rattle.formulas.specs.declared.Deduction.{Deduction}
-use Rattle.formulas.specs.Pixel.{reflectedOf, tArOf, finalOf}
-use Rattle.formulas.specs.Inner.{compensationOf, commonToOf}
-use Rattle.formulas.proofs.Lifted as lifted
-use Rattle.calculations.specs.declared.Frame.{Frame}
-use Rattle.calculations.specs.declared.Frame.the-variants.{Done, Refused}
-use Rattle.pixels.specs.Pixels.{into, lostOf}
-use Rattle.calculations.specs.Frames.{IrCall, ToCall, PassCall, common, infraredAt, finalAt, Writes, Infrareds, Passes}
-use Rattle.pixels.specs.Inner.{raw, rawAt, liftedAt}
+use Rattle.formulas.specs.declared.Constants.{Constants}
+use Rattle.pixels.proofs.Blocks.{in-turn-whole, in-turn-same}
+use Rattle.frames.specs.declared.Call.{Call}
+use Rattle.frames.specs.declared.Frame.{Frame}
+use Rattle.frames.specs.declared.Wanted.{Wanted}
+use Rattle.frames.specs.Inner.{anyIr, anyPass, Makes}
+use Rattle.frames.proofs.Calls.{same-makes}
+use Rattle.calculations.specs.declared.Input.{Input}
+use Rattle.calculations.specs.Frames.{constantsOf, rangesOf, irCall, passCall}
 
-infrared-is : (f : IrCall)
-    → rawAt (raw (common f) (compensationOf (f .calibration) (common f) (f .compensation)) (f .pixels) (offsetsOf (f .offsets0) (f .offsets1) (f .subpage)) (f .kV) (f .kTa)) ≡ infraredAt f
-unfolding rawAt infraredAt
-infrared-is f = fun-ext (λ k. lifted.infrared (f .calibration) (common f) (f .compensation) _ _ _ _)
+-- the call that the code makes, with constants k and shortest table n
+abbrev pub call : Input → Float → Wanted → Constants → ℕ → Call
+call f compensation w k n = record {
+  constants = k;
+  settings = f .settings;
+  ram = f .ram;
+  compensation = compensation;
+  «access_cp» = plusZero;
+  blocks = 6;
+  «k_v_blocks» = 6;
+  «access_blocks» = 1;
+  ranges = rangeCount;
+  table = n;
+  wanted = w;
+}
 
-pub infrared-from : (f : IrCall) {k : CommonIrData} {b : Deduction} {o : List ℤ} → k ≡ common f → b ≡ compensationOf (f .calibration) k (f .compensation)
-    → o ≡ offsetsOf (f .offsets0) (f .offsets1) (f .subpage) → rawAt (raw k b (f .pixels) o (f .kV) (f .kTa)) ≡ infraredAt f
-infrared-from f p q r = rw (q, p, r) (infrared-is f)
-
-final-is : (f : ToCall) (v : ℕ → Float)
-    → liftedAt (commonToOf (f .calibration) (f .emissivity) (f .ambient) (f .reflected) (getD (f .calibration .«k_s_to») (f .range) nan)) (f .alpha) v ≡ finalAt f v
-unfolding liftedAt finalAt
-final-is f v = fun-ext each
-  where
-    each : (k : ℕ) → liftedAt (commonToOf (f .calibration) (f .emissivity) (f .ambient) (f .reflected) (getD (f .calibration .«k_s_to») (f .range) nan)) (f .alpha) v k ≡ finalAt f v k
-    each k =
-        let K = getD (f .calibration .«k_s_to») (f .range) nan in
-        lifted.final (f .calibration) (f .emissivity) (f .ambient) (f .reflected) K (v k) _
-        ∙ ap (λ (A : Float). finalOf K (tArOf (f .ambient) (reflectedOf (f .reflected) (f .ambient)) (f .emissivity)) A (v k))
-        (lifted.sensitivity (f .calibration) (f .emissivity) (f .ambient) (f .reflected) K (getD (f .alpha) k nan))
-
-pub final-from : (f : ToCall) (v : ℕ → Float) {k : Float} {c : CommonToData} → k ≡ getD (f .calibration .«k_s_to») (f .range) nan
-    → c ≡ commonToOf (f .calibration) (f .emissivity) (f .ambient) (f .reflected) k → liftedAt c (f .alpha) v ≡ finalAt f v
-final-from f v p q = rw (q, p) (final-is f v)
-
-pub infrared-fits : (f : IrCall) (k : ℕ) → T (fits binary32 (infraredAt f k))
-unfolding infraredAt
-infrared-fits f k = lifted.infrared-fits (f .calibration) (common f) (f .compensation) _ _ _ _
-
-module _ {verdict : Verdict} {tA : Float} {mask : List ℕ} {bits : ℕ → ℕ} {d : List ℕ} where
-  pub refused : {x : Refusal} → verdict ≡ Verdict.Refused x → Writes verdict tA mask bits d d (Refused x)
-  refused e = record { answer = rw e; destination = rw e }
-
-  pub done : {d′ : List ℕ} {t lost : ℕ} → verdict ≡ Verdict.Pass → t ≡ toBits binary32 tA → lost ≡ lostOf mask bits → d′ ≡ into mask bits d
-      → Writes verdict tA mask bits d d′ (Done t lost)
-  done e p q r = record { answer = rw e (ap₂ Done p q); destination = rw e r }
-
--- the same call with the same reading
-pub infrareds-with : (f : Float → IrCall) {x y : Float} {d d′ : List ℕ} {r : Frame} → x ≡ y → Infrareds (f x) d d′ r → Infrareds (f y) d d′ r
-infrareds-with f {d = d} {d′ = d′} {r = r} e p = subst (λ (z : Float). Infrareds (f z) d d′ r) e p
-
-pub passes-with : (f : Float → PassCall) {x y : Float} {d d′ : List ℕ} {r : Frame} → x ≡ y → Passes (f x) d d′ r → Passes (f y) d d′ r
-passes-with f {d = d} {d′ = d′} {r = r} e p = subst (λ (z : Float). Passes (f z) d d′ r) e p
+pub makes : (c : Calibration) (f : Input) (compensation : Float) (w : Wanted) (o0 o1 : List ℤ) (alpha v t : List Float) (p m : List ℕ) {k : Constants} {n : ℕ} {o : List ℤ}
+    → k ≡ constantsOf c → n ≡ min (min (length o0) (length o1)) (min (length v) (length t)) → o ≡ offsetsOf o0 o1 (f .subpage) → {d d′ : List ℕ} {r : Frame}
+    → Makes w (anyPass (anyIr (call f compensation w k n) p o t v (replicate side plusZero) m) (rangesOf c) alpha) d d′ r
+    → Makes w (passCall c (irCall c f compensation o0 o1 v t p m) alpha) d d′ r
+makes c f compensation w o0 o1 alpha v t p m {k} {n} {o} e g h {d} {d′} {r} made =
+    let ir = irCall c f compensation o0 o1 v t p m in
+    same-makes (anyIr (call f compensation w (constantsOf c) (ir .table)) p (offsetsOf o0 o1 (f .subpage)) t v (replicate side plusZero) m) (rangesOf c) alpha
+    (ir .offset) (ir .kV) (ir .kTa) (ir .access)
+    (λ j l. (refl, in-turn-whole v 6 j l, refl, in-turn-same plusZero j)) w (rw (e, g, h) at made)

@@ -1,5 +1,3 @@
--- The three frame calls. Inner is for inner functions only.
+-- The MLX90641's frame calls; Filtered says what a filter's average does not change.
 pub mod Frames
-pub mod Demand
-pub mod OneOrTwo
-pub mod Inner
+pub mod Filtered

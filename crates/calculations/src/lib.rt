@@ -1,263 +1,122 @@
-// The frame calls: pixels to infrared, infrared to temperature, and both in one pass; the two that take pixels also with a filter's average.
+// The MLX90641's frame calls: pixels to infrared, infrared to temperature, both in one pass, and the second pass; those that take pixels also with a
+// filter's average. Each hands the record's numbers and the tables to the calls that both cameras share.
 ghost use mathlib.Core.Path.{_≡_};
-ghost use Prim.Native.Nat.{min, _*_, _<_, _≤_};
-ghost use lib.ListN.{length, getD};
-ghost use lib.Ieee.{nan};
-ghost use Rattle.map.specs.Map.{framePixels};
-ghost use Rattle.calculations.specs.Frames.{irCall, toCall, passCall, ownReading, steadied, Infrareds, Temperatures, Passes};
-ghost use Rattle.calculations.specs.Inner.{Infrared, Temperature};
+ghost use Prim.Native.Nat.{min};
+ghost use lib.ListN.{length};
+ghost use Rattle.frames.specs.Frames.{ownReading, steadied, Infrareds, Temperatures, Passes};
+ghost use Rattle.frames.specs.Ranged.{RangedPasses};
+ghost use Rattle.frames.specs.Inner.{Makes};
+ghost use Rattle.calculations.specs.Frames.{constantsOf, irCall, toCall, passCall};
 use calibration::Calibration;
-use eeprom::Subpage;
+use camera::Subpage;
 use filter::Steadied;
+use formulas::Constants;
 use formulas::RamData;
-use formulas::Reflected;
-use formulas::Supply;
-use gates::Lengths;
+use formulas::Settings;
+use frames::Call;
+use frames::Frame;
+use frames::Wanted;
+use map::RANGES;
 use offsets::Offset;
-use refusal::Refusal;
-use refusal::Verdict;
+use roots::SIDE;
 
-// What a frame answers: the ambient temperature's bits and how many pixels this call wrote as the pattern, or the refusal.
-pub enum Frame {
-    Done { t_a: u32, lost: usize },
-    Refused(Refusal),
+// How many blocks of 32 pixels a frame has.
+const BLOCKS: usize = 6;
+
+// What a frame is read with beside the card's record and tables: the caller's settings, the RAM words, and the subpage.
+pub struct Input {
+    pub settings: Settings,
+    pub ram: RamData,
+    pub subpage: Subpage,
 }
 
-// K_sTo of the basic range.
-pub fn basic_k_s_to(calibration: Calibration, basic_range: usize) -> f32
-    requires { ⌜ «basic_range» < 8 ⌝ }
-    ensures { λ r. ⌜ r ≡ getD (calibration .«k_s_to») «basic_range» nan ⌝ }
+// The same, with a filter's answer for the compensation pixel.
+pub struct FilteredInput {
+    pub input: Input,
+    pub compensation: Steadied,
+}
+
+// What the formulas read of the record.
+fn constants_of(calibration: Calibration) -> Constants
+    ensures { λ r. ⌜ r ≡ constantsOf calibration ⌝ }
 {
-    let k_s_to = calibration.k_s_to;
-    k_s_to[basic_range]
+    let gradient = calibration.temperature_gradient_coefficient;
+    Constants {
+        k_v_dd: calibration.k_v_dd,
+        v_dd_25: calibration.v_dd_25,
+        k_v_ptat: calibration.k_v_ptat,
+        k_t_ptat: calibration.k_t_ptat,
+        v_ptat_25: calibration.v_ptat_25,
+        alpha_ptat: calibration.alpha_ptat,
+        gain: calibration.gain,
+        k_s_ta: calibration.k_s_ta,
+        alpha_cp: calibration.alpha_cp,
+        offset_reference_cp: calibration.offset_reference_cp,
+        k_v_cp: calibration.k_v_cp,
+        k_ta_cp: calibration.k_ta_cp,
+        temperature_gradient_coefficient: gradient,
+    }
 }
 
 // The length of the shortest of four tables.
-pub fn shortest_of(offsets0: usize, offsets1: usize, k_v: usize, k_ta: usize) -> usize
+fn shortest_of(offsets0: usize, offsets1: usize, k_v: usize, k_ta: usize) -> usize
     ensures { λ r. ⌜ r ≡ min (min offsets0 offsets1) (min «k_v» «k_ta») ⌝ }
 {
     util::least(util::least(offsets0, offsets1), util::least(k_v, k_ta))
 }
 
-// The frame's ambient temperature, and how many of its pixels are lost.
-pub struct Summary {
-    pub t_a: f32,
-    pub lost: usize,
-}
-
-// Writes the infrared numbers of the pixels, from any reading of the compensation pixel.
-pub fn write_infrared<'a>(
+// A call from pixels, with any reading of the compensation pixel. Alpha is not looked at where infrared numbers are wanted.
+fn from_pixels<'a>(
     calibration: Calibration,
-    emissivity: f32,
-    supply: Supply,
-    ram: RamData,
+    input: Input,
     compensation: f32,
-    subpage: Subpage,
+    wanted: Wanted,
     offsets0: &'a [Offset],
     offsets1: &'a [Offset],
+    alpha: &[f32],
     k_v: &[f32],
     k_ta: &[f32],
     pixels: &[u8],
     mask: &[u8],
     destination: &mut [u32],
-) -> Summary
-    requires { ⌜ (framePixels ≤ length (now destination)) × (framePixels * 2 ≤ length (now pixels)) × (framePixels ≤ length (now mask)) ⌝ }
-    requires { ⌜ framePixels ≤ min (min (length (now offsets0)) (length (now offsets1))) (min (length (now «k_v»)) (length (now «k_ta»))) ⌝ }
-    ensures { λ r. ⌜ Infrared (irCall calibration emissivity supply ram compensation subpage (now (offsets0 .entry)) (now (offsets1 .entry)) (now («k_v» .entry)) (now («k_ta» .entry)) (now (pixels .entry)) (now (mask .entry)))
+) -> Frame
+    ensures { λ r. ⌜ Makes wanted (passCall calibration (irCall calibration input compensation (now (offsets0 .entry)) (now (offsets1 .entry)) (now («k_v» .entry)) (now («k_ta» .entry)) (now (pixels .entry)) (now (mask .entry))) (now (alpha .entry)))
         (now (destination .entry)) (now (destination .exit)) r ⌝ }
 {
-    let common = formulas::common_ir_data(calibration, emissivity, supply, ram);
-    let deduction = formulas::compensation(calibration, common, compensation);
+    let constants = constants_of(calibration);
+    let settings = input.settings;
+    let ram = input.ram;
+    let subpage = input.subpage;
+    let call = Call {
+        constants,
+        settings,
+        ram,
+        compensation,
+        access_cp: 0.0,
+        blocks: BLOCKS,
+        k_v_blocks: BLOCKS,
+        access_blocks: 1,
+        ranges: RANGES as u32,
+        table: shortest_of(offsets0.len(), offsets1.len(), k_v.len(), k_ta.len()),
+        wanted,
+    };
     let offsets = eeprom::subpage_offsets(offsets0, offsets1, subpage);
-    let lost = pixels::infrared_pixels(
-        common,
-        deduction,
+    let access = [0.0f32; SIDE];
+    let corners = calibration.corner_temperatures;
+    let k_s_to = calibration.k_s_to;
+    let coefficients = calibration.range_coefficients;
+    frames::from_pixels(
+        call,
         mask,
         pixels,
         offsets,
-        k_v,
         k_ta,
-        destination,
-    );
-    Summary {
-        t_a: common.t_a,
-        lost,
-    }
-}
-
-// Turns the infrared numbers of the pixels into temperatures. Answers how many had none.
-fn write_temperatures(
-    calibration: Calibration,
-    emissivity: f32,
-    t_a: f32,
-    basic_range: usize,
-    reflected: Reflected,
-    alpha: &[f32],
-    mask: &[u8],
-    destination: &mut [u32],
-) -> usize
-    requires { ⌜ («basic_range» < 8) × (framePixels ≤ length (now mask)) × (framePixels ≤ length (now destination)) × (framePixels ≤ length (now alpha)) ⌝ }
-    ensures { λ r. ⌜ Temperature (toCall calibration emissivity «t_a» «basic_range» reflected (now (alpha .entry)) (now (mask .entry)))
-        (now (destination .entry)) (now (destination .exit)) r ⌝ }
-{
-    let k_s_to = basic_k_s_to(calibration, basic_range);
-    let common = formulas::common_to_data(calibration, emissivity, t_a, reflected, k_s_to);
-    pixels::temperature_pixels(common, mask, alpha, destination)
-}
-
-// Pixels to infrared numbers, from any reading of the compensation pixel.
-fn pixels_to_ir_data<'a>(
-    calibration: Calibration,
-    emissivity: f32,
-    supply: Supply,
-    ram: RamData,
-    compensation: f32,
-    subpage: Subpage,
-    offsets0: &'a [Offset],
-    offsets1: &'a [Offset],
-    k_v: &[f32],
-    k_ta: &[f32],
-    pixels: &[u8],
-    mask: &[u8],
-    destination: &mut [u32],
-) -> Frame
-    ensures { λ r. ⌜ Infrareds (irCall calibration emissivity supply ram compensation subpage (now (offsets0 .entry)) (now (offsets1 .entry)) (now («k_v» .entry)) (now («k_ta» .entry)) (now (pixels .entry)) (now (mask .entry)))
-        (now (destination .entry)) (now (destination .exit)) r ⌝ }
-{
-    let lengths = Lengths {
-        table: shortest_of(offsets0.len(), offsets1.len(), k_v.len(), k_ta.len()),
-        pixels: pixels.len(),
-        destination: destination.len(),
-        mask: mask.len(),
-    };
-    let verdict = gates::infrared_gate(calibration, emissivity, ram, lengths);
-    if let Verdict::Refused(refusal) = verdict {
-        return Frame::Refused(refusal);
-    }
-    let summary = write_infrared(
-        calibration,
-        emissivity,
-        supply,
-        ram,
-        compensation,
-        subpage,
-        offsets0,
-        offsets1,
         k_v,
-        k_ta,
-        pixels,
-        mask,
-        destination,
-    );
-    Frame::Done {
-        t_a: floats::to_bits(summary.t_a),
-        lost: summary.lost,
-    }
-}
-
-// Pixels to temperatures in one pass, from any reading of the compensation pixel.
-fn pixels_to_temperatures<'a>(
-    calibration: Calibration,
-    emissivity: f32,
-    supply: Supply,
-    ram: RamData,
-    compensation: f32,
-    subpage: Subpage,
-    basic_range: usize,
-    reflected: Reflected,
-    offsets0: &'a [Offset],
-    offsets1: &'a [Offset],
-    alpha: &[f32],
-    k_v: &[f32],
-    k_ta: &[f32],
-    pixels: &[u8],
-    mask: &[u8],
-    destination: &mut [u32],
-) -> Frame
-    ensures { λ r. ⌜ Passes (passCall (irCall calibration emissivity supply ram compensation subpage (now (offsets0 .entry)) (now (offsets1 .entry)) (now («k_v» .entry)) (now («k_ta» .entry)) (now (pixels .entry)) (now (mask .entry))) «basic_range» reflected (now (alpha .entry)))
-        (now (destination .entry)) (now (destination .exit)) r ⌝ }
-{
-    let table = shortest_of(offsets0.len(), offsets1.len(), k_v.len(), k_ta.len());
-    let lengths = Lengths {
-        table: util::least(alpha.len(), table),
-        pixels: pixels.len(),
-        destination: destination.len(),
-        mask: mask.len(),
-    };
-    let verdict = gates::one_pass_gate(calibration, emissivity, ram, basic_range, lengths);
-    if let Verdict::Refused(refusal) = verdict {
-        return Frame::Refused(refusal);
-    }
-    let summary = write_infrared(
-        calibration,
-        emissivity,
-        supply,
-        ram,
-        compensation,
-        subpage,
-        offsets0,
-        offsets1,
-        k_v,
-        k_ta,
-        pixels,
-        mask,
-        destination,
-    );
-    let t_a = summary.t_a;
-    let lost = write_temperatures(
-        calibration,
-        emissivity,
-        t_a,
-        basic_range,
-        reflected,
+        &access,
         alpha,
-        mask,
-        destination,
-    );
-    Frame::Done {
-        t_a: floats::to_bits(t_a),
-        lost,
-    }
-}
-
-// The frame's own reading of the compensation pixel.
-pub fn own_reading(ram: RamData) -> f32
-    ensures { λ r. ⌜ r ≡ ownReading ram ⌝ }
-{
-    ram.compensation_pixel as f32
-}
-
-// Pixels to infrared numbers: into the destination, as their bits.
-pub fn raw_pixels_to_ir_data<'a>(
-    calibration: Calibration,
-    emissivity: f32,
-    supply: Supply,
-    ram: RamData,
-    subpage: Subpage,
-    offsets0: &'a [Offset],
-    offsets1: &'a [Offset],
-    k_v: &[f32],
-    k_ta: &[f32],
-    pixels: &[u8],
-    mask: &[u8],
-    destination: &mut [u32],
-) -> Frame
-    ensures { λ r. ⌜ Infrareds (irCall calibration emissivity supply ram (ownReading ram) subpage (now (offsets0 .entry)) (now (offsets1 .entry)) (now («k_v» .entry)) (now («k_ta» .entry)) (now (pixels .entry)) (now (mask .entry)))
-        (now (destination .entry)) (now (destination .exit)) r ⌝ }
-{
-    pixels_to_ir_data(
-        calibration,
-        emissivity,
-        supply,
-        ram,
-        own_reading(ram),
-        subpage,
-        offsets0,
-        offsets1,
-        k_v,
-        k_ta,
-        pixels,
-        mask,
+        &corners,
+        &k_s_to,
+        &coefficients,
         destination,
     )
 }
@@ -265,52 +124,101 @@ pub fn raw_pixels_to_ir_data<'a>(
 // Infrared numbers to temperatures: in place, both as their bits. The ambient temperature is handed in, and handed back.
 pub fn raw_ir_to_temperatures(
     calibration: Calibration,
-    emissivity: f32,
+    settings: Settings,
     t_a: f32,
-    basic_range: usize,
-    reflected: Reflected,
     alpha: &[f32],
     mask: &[u8],
     destination: &mut [u32],
 ) -> Frame
-    ensures { λ r. ⌜ Temperatures (toCall calibration emissivity «t_a» «basic_range» reflected (now (alpha .entry)) (now (mask .entry)))
+    ensures { λ r. ⌜ Temperatures (toCall calibration settings «t_a» (now (alpha .entry)) (now (mask .entry)))
         (now (destination .entry)) (now (destination .exit)) r ⌝ }
 {
-    let lengths = Lengths {
-        table: alpha.len(),
-        pixels: gates::FRAME_BYTES,
-        destination: destination.len(),
-        mask: mask.len(),
-    };
-    let verdict = gates::temperature_gate(emissivity, basic_range, lengths);
-    if let Verdict::Refused(refusal) = verdict {
-        return Frame::Refused(refusal);
-    }
-    let lost = write_temperatures(
-        calibration,
-        emissivity,
+    let k_s_to = calibration.k_s_to;
+    frames::from_infrared(
+        constants_of(calibration),
+        settings,
         t_a,
-        basic_range,
-        reflected,
+        BLOCKS,
+        RANGES,
+        &k_s_to,
         alpha,
         mask,
         destination,
-    );
-    Frame::Done {
-        t_a: floats::to_bits(t_a),
-        lost,
-    }
+    )
+}
+
+// Pixels to infrared numbers: into the destination, as their bits.
+pub fn raw_pixels_to_ir_data<'a>(
+    calibration: Calibration,
+    input: Input,
+    offsets0: &'a [Offset],
+    offsets1: &'a [Offset],
+    k_v: &[f32],
+    k_ta: &[f32],
+    pixels: &[u8],
+    mask: &[u8],
+    destination: &mut [u32],
+) -> Frame
+    ensures { λ r. ⌜ Infrareds (irCall calibration input (ownReading (input .ram)) (now (offsets0 .entry)) (now (offsets1 .entry)) (now («k_v» .entry)) (now («k_ta» .entry)) (now (pixels .entry)) (now (mask .entry)))
+        (now (destination .entry)) (now (destination .exit)) r ⌝ }
+{
+    let ram = input.ram;
+    let reading = frames::own_reading(ram);
+    from_pixels(
+        calibration,
+        input,
+        reading,
+        Wanted::Infrared,
+        offsets0,
+        offsets1,
+        k_ta,
+        k_v,
+        k_ta,
+        pixels,
+        mask,
+        destination,
+    )
+}
+
+// The same with a filter's answer for the compensation pixel.
+pub fn filtered_pixels_to_ir_data<'a>(
+    calibration: Calibration,
+    filtered: FilteredInput,
+    offsets0: &'a [Offset],
+    offsets1: &'a [Offset],
+    k_v: &[f32],
+    k_ta: &[f32],
+    pixels: &[u8],
+    mask: &[u8],
+    destination: &mut [u32],
+) -> Frame
+    ensures { λ r. ⌜ Infrareds (irCall calibration (filtered .input) (steadied (filtered .compensation) (filtered .input .ram)) (now (offsets0 .entry)) (now (offsets1 .entry)) (now («k_v» .entry)) (now («k_ta» .entry)) (now (pixels .entry)) (now (mask .entry)))
+        (now (destination .entry)) (now (destination .exit)) r ⌝ }
+{
+    let input = filtered.input;
+    let compensation = filtered.compensation;
+    let ram = input.ram;
+    let reading = frames::steadied(compensation, ram);
+    from_pixels(
+        calibration,
+        input,
+        reading,
+        Wanted::Infrared,
+        offsets0,
+        offsets1,
+        k_ta,
+        k_v,
+        k_ta,
+        pixels,
+        mask,
+        destination,
+    )
 }
 
 // Pixels to temperatures in one pass: into the destination, as their bits.
 pub fn raw_pixels_to_temperatures<'a>(
     calibration: Calibration,
-    emissivity: f32,
-    supply: Supply,
-    ram: RamData,
-    subpage: Subpage,
-    basic_range: usize,
-    reflected: Reflected,
+    input: Input,
     offsets0: &'a [Offset],
     offsets1: &'a [Offset],
     alpha: &[f32],
@@ -320,18 +228,16 @@ pub fn raw_pixels_to_temperatures<'a>(
     mask: &[u8],
     destination: &mut [u32],
 ) -> Frame
-    ensures { λ r. ⌜ Passes (passCall (irCall calibration emissivity supply ram (ownReading ram) subpage (now (offsets0 .entry)) (now (offsets1 .entry)) (now («k_v» .entry)) (now («k_ta» .entry)) (now (pixels .entry)) (now (mask .entry))) «basic_range» reflected (now (alpha .entry)))
+    ensures { λ r. ⌜ Passes (passCall calibration (irCall calibration input (ownReading (input .ram)) (now (offsets0 .entry)) (now (offsets1 .entry)) (now («k_v» .entry)) (now («k_ta» .entry)) (now (pixels .entry)) (now (mask .entry))) (now (alpha .entry)))
         (now (destination .entry)) (now (destination .exit)) r ⌝ }
 {
-    pixels_to_temperatures(
+    let ram = input.ram;
+    let reading = frames::own_reading(ram);
+    from_pixels(
         calibration,
-        emissivity,
-        supply,
-        ram,
-        own_reading(ram),
-        subpage,
-        basic_range,
-        reflected,
+        input,
+        reading,
+        Wanted::Temperature,
         offsets0,
         offsets1,
         alpha,
@@ -343,62 +249,10 @@ pub fn raw_pixels_to_temperatures<'a>(
     )
 }
 
-// What stands for the compensation pixel's reading.
-fn steadied(compensation: Steadied, ram: RamData) -> f32
-    ensures { λ r. ⌜ r ≡ steadied compensation ram ⌝ }
-{
-    match compensation {
-        Steadied::NotYet => own_reading(ram),
-        Steadied::Average(average) => average,
-    }
-}
-
-// Pixels to infrared numbers, with a filter's answer for the compensation pixel.
-pub fn filtered_pixels_to_ir_data<'a>(
-    calibration: Calibration,
-    emissivity: f32,
-    supply: Supply,
-    ram: RamData,
-    compensation: Steadied,
-    subpage: Subpage,
-    offsets0: &'a [Offset],
-    offsets1: &'a [Offset],
-    k_v: &[f32],
-    k_ta: &[f32],
-    pixels: &[u8],
-    mask: &[u8],
-    destination: &mut [u32],
-) -> Frame
-    ensures { λ r. ⌜ Infrareds (irCall calibration emissivity supply ram (steadied compensation ram) subpage (now (offsets0 .entry)) (now (offsets1 .entry)) (now («k_v» .entry)) (now («k_ta» .entry)) (now (pixels .entry)) (now (mask .entry)))
-        (now (destination .entry)) (now (destination .exit)) r ⌝ }
-{
-    pixels_to_ir_data(
-        calibration,
-        emissivity,
-        supply,
-        ram,
-        steadied(compensation, ram),
-        subpage,
-        offsets0,
-        offsets1,
-        k_v,
-        k_ta,
-        pixels,
-        mask,
-        destination,
-    )
-}
-
-// Pixels to temperatures in one pass, with a filter's answer for the compensation pixel.
+// The same with a filter's answer for the compensation pixel.
 pub fn filtered_pixels_to_temperatures<'a>(
     calibration: Calibration,
-    emissivity: f32,
-    supply: Supply,
-    ram: RamData,
-    compensation: Steadied,
-    subpage: Subpage,
-    basic_range: usize,
-    reflected: Reflected,
+    filtered: FilteredInput,
     offsets0: &'a [Offset],
     offsets1: &'a [Offset],
     alpha: &[f32],
@@ -408,18 +262,88 @@ pub fn filtered_pixels_to_temperatures<'a>(
     mask: &[u8],
     destination: &mut [u32],
 ) -> Frame
-    ensures { λ r. ⌜ Passes (passCall (irCall calibration emissivity supply ram (steadied compensation ram) subpage (now (offsets0 .entry)) (now (offsets1 .entry)) (now («k_v» .entry)) (now («k_ta» .entry)) (now (pixels .entry)) (now (mask .entry))) «basic_range» reflected (now (alpha .entry)))
+    ensures { λ r. ⌜ Passes (passCall calibration (irCall calibration (filtered .input) (steadied (filtered .compensation) (filtered .input .ram)) (now (offsets0 .entry)) (now (offsets1 .entry)) (now («k_v» .entry)) (now («k_ta» .entry)) (now (pixels .entry)) (now (mask .entry))) (now (alpha .entry)))
         (now (destination .entry)) (now (destination .exit)) r ⌝ }
 {
-    pixels_to_temperatures(
+    let input = filtered.input;
+    let compensation = filtered.compensation;
+    let ram = input.ram;
+    let reading = frames::steadied(compensation, ram);
+    from_pixels(
         calibration,
-        emissivity,
-        supply,
-        ram,
-        steadied(compensation, ram),
-        subpage,
-        basic_range,
-        reflected,
+        input,
+        reading,
+        Wanted::Temperature,
+        offsets0,
+        offsets1,
+        alpha,
+        k_v,
+        k_ta,
+        pixels,
+        mask,
+        destination,
+    )
+}
+
+// The second pass: pixels to temperatures, each by the range that holds its basic temperature.
+pub fn raw_pixels_to_ranged_temperatures<'a>(
+    calibration: Calibration,
+    input: Input,
+    offsets0: &'a [Offset],
+    offsets1: &'a [Offset],
+    alpha: &[f32],
+    k_v: &[f32],
+    k_ta: &[f32],
+    pixels: &[u8],
+    mask: &[u8],
+    destination: &mut [u32],
+) -> Frame
+    ensures { λ r. ⌜ RangedPasses (passCall calibration (irCall calibration input (ownReading (input .ram)) (now (offsets0 .entry)) (now (offsets1 .entry)) (now («k_v» .entry)) (now («k_ta» .entry)) (now (pixels .entry)) (now (mask .entry))) (now (alpha .entry)))
+        (now (destination .entry)) (now (destination .exit)) r ⌝ }
+{
+    let ram = input.ram;
+    let reading = frames::own_reading(ram);
+    from_pixels(
+        calibration,
+        input,
+        reading,
+        Wanted::Ranged,
+        offsets0,
+        offsets1,
+        alpha,
+        k_v,
+        k_ta,
+        pixels,
+        mask,
+        destination,
+    )
+}
+
+// The same with a filter's answer for the compensation pixel.
+pub fn filtered_pixels_to_ranged_temperatures<'a>(
+    calibration: Calibration,
+    filtered: FilteredInput,
+    offsets0: &'a [Offset],
+    offsets1: &'a [Offset],
+    alpha: &[f32],
+    k_v: &[f32],
+    k_ta: &[f32],
+    pixels: &[u8],
+    mask: &[u8],
+    destination: &mut [u32],
+) -> Frame
+    ensures { λ r. ⌜ RangedPasses (passCall calibration (irCall calibration (filtered .input) (steadied (filtered .compensation) (filtered .input .ram)) (now (offsets0 .entry)) (now (offsets1 .entry)) (now («k_v» .entry)) (now («k_ta» .entry)) (now (pixels .entry)) (now (mask .entry))) (now (alpha .entry)))
+        (now (destination .entry)) (now (destination .exit)) r ⌝ }
+{
+    let input = filtered.input;
+    let compensation = filtered.compensation;
+    let ram = input.ram;
+    let reading = frames::steadied(compensation, ram);
+    from_pixels(
+        calibration,
+        input,
+        reading,
+        Wanted::Ranged,
         offsets0,
         offsets1,
         alpha,

@@ -15,7 +15,7 @@ use Rattle.map.specs.declared.Field.the-variants.{KSTa, Emissivity, Gain, VDd25
 use Rattle.map.specs.Map.{wordOf}
 use Rattle.calibration.specs.declared.Calibration.{Calibration}
 use Rattle.calibration.specs.declared.Ranges.{Ranges}
-use Rattle.calibration.specs.declared.Gradient.the-variants.{Coefficient, Missing}
+use Rattle.camera.specs.declared.Gradient.the-variants.{Coefficient, Missing}
 use Rattle.calibration.specs.Coefficients.{rangeCount, coefficientsOf}
 
 -- the data of a field of one word, and of a field of two

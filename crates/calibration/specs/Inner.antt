@@ -1,12 +1,8 @@
 -- For inner functions only: the parts in which the record is read. Assumes nothing.
-use Prim.Native.Nat.{ℕ, _+_, _≤_, _<_}
-use mathlib.Core.Path.{_≡_}
+use Prim.Native.Nat.{ℕ, _+_}
 use mathlib.Core.List.{List}
-use lib.IntN.{ℤ, pos, _-ℤ_}
-use lib.ListN.{getD, length}
-use lib.Ieee.{Float, nan}
-use Rattle.floats.specs.Floats.{_⊕_, _⊗_, real, over}
-use Rattle.floats.specs.Constants.{one}
+use lib.IntN.{pos}
+use Rattle.floats.specs.Floats.{over}
 use Rattle.util.specs.Fields.{signed}
 use Rattle.card.specs.Inner.{at}
 use Rattle.calibration.specs.declared.Calibration.{Calibration}
@@ -15,9 +11,7 @@ use Rattle.calibration.specs.declared.References.{References}
 use Rattle.calibration.specs.declared.Ptat.{Ptat}
 use Rattle.calibration.specs.declared.Compensation.{Compensation}
 use Rattle.calibration.specs.declared.Range.{Range}
-use Rattle.calibration.specs.declared.Ranges.{Ranges}
 use Rattle.calibration.specs.Calibration.{calibrationOf}
-use Rattle.calibration.specs.Coefficients.{growth, coefficientAt}
 
 -- the record of a card as far as its basic range doesn't matter: every part below is the same for all of them
 abbrev pub cardOf : (ℕ → ℕ) → Calibration
@@ -48,25 +42,3 @@ rangeAt words power k = record {
   «k_s_to» = over (signed 11 (at words (k + 1))) power;
   next = record { word = k + 1 + 1 };
 }
-
--- ---- the coefficients, from one range to the next
-
-abbrev pub growthOf : Float → ℤ → ℤ → Float
-growthOf k own next = one ⊕ k ⊗ real (next -ℤ own)
-
--- the growths of all ranges that have a next one
-pub record Growths (g : Ranges) (list : List Float) : Type 0 where
-  pub at : (r : ℕ) → r < 7 → getD list r nan ≡ growth g r
-
--- the coefficients from range lo on, up to range hi
-pub record Between (g : Ranges) (b lo hi : ℕ) (list : List Float) : Type 0 where
-  pub long : length list ≡ 8
-  pub at : (r : ℕ) → lo ≤ r → r ≤ hi → getD list r nan ≡ coefficientAt g b r
-
--- from the growths, those of the basic range and above
-pub record Upward (growths : List Float) (b : ℕ) (list : List Float) : Type 0 where
-  pub of : (g : Ranges) → Growths g growths → Between g b b 7 list
-
--- and with them all
-pub record Downward (growths : List Float) (b : ℕ) (above list : List Float) : Type 0 where
-  pub of : (g : Ranges) → Growths g growths → Between g b b 7 above → Between g b 0 7 list

@@ -12,17 +12,9 @@ ghost use Rattle.card.specs.Inner.{at};
 ghost use Rattle.calibration.specs.Calibration.{lowOver, resolutionOf, rangesOf, calibrationOf, noCalibration};
 ghost use Rattle.calibration.specs.Coefficients.{rangeCount, zeroFactor};
 ghost use Rattle.calibration.specs.Inner.{cardOf, sensingOf, referencesOf, ptatOf, compensationOf, rangeAt};
+use camera::Gradient;
 use card::Cursor;
 use map::Words;
-
-// How many temperature ranges there are.
-pub const RANGES: usize = 8;
-
-// The temperature gradient: a coefficient or none. This chip always gives one, even 0.
-pub enum Gradient {
-    Coefficient(f32),
-    Missing,
-}
 
 pub struct Calibration {
     pub k_v_dd: i16,

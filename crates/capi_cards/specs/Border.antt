@@ -14,7 +14,7 @@ use Rattle.eeprom.specs.Load.{Tables, Loads}
 use Rattle.listing.specs.Index.{Lists}
 use Rattle.listing.specs.Read.{Reads}
 use Rattle.writer.specs.Write.{Writes}
-use Rattle.border.specs.Record.{recordOut}
+use Rattle.capi_record.specs.Record.{recordOut}
 use Rattle.capi_cards.specs.declared.Load.{Load}
 use Rattle.capi_cards.specs.declared.Outcome.{Outcome}
 use Rattle.capi_cards.specs.declared.Part.{Part}

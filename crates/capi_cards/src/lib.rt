@@ -4,9 +4,9 @@ ghost use lib.ListN.{take, drop};
 ghost use Rattle.eeprom.specs.Load.{tables};
 ghost use Rattle.eeprom.specs.Parts.{rowOf, offsetsOf};
 ghost use Rattle.listing.specs.Index.{lists};
-ghost use Rattle.border.specs.Record.{subpageOf};
+ghost use Rattle.capi_record.specs.Record.{subpageOf};
 ghost use Rattle.capi_cards.specs.Border.{outcomeOf, Loading, Writing, Reading, rowPlace, offsetsPlace};
-use border::Record;
+use capi_record::Record;
 use offsets::Offset;
 use refusal::Verdict;
 
@@ -57,7 +57,7 @@ pub extern "C" fn loamchalice_load(
     let inner = loaded.calibration;
     let mending = loaded.mending;
     let told = verdict.told();
-    let calibration = border::record_out(inner);
+    let calibration = capi_record::record_out(inner);
     Load {
         number: told.number,
         place: told.place,
@@ -130,7 +130,7 @@ pub extern "C" fn loamchalice_subpage_offsets<'a>(
 ) -> Part
     ensures { λ r. ⌜ r ≡ offsetsPlace (offsetsOf (now (zero .entry)) (now (one .entry)) (subpageOf subpage)) ⌝ }
 {
-    let which = border::subpage_of(subpage);
+    let which = capi_record::subpage_of(subpage);
     let part = eeprom::subpage_offsets(zero, one, which);
     Part {
         start: 0,

@@ -1,16 +1,18 @@
 // The filter of the compensation pixel for C and Rust, and the frame calls that take what it answers.
 ghost use mathlib.Core.Path.{_≡_};
 ghost use Rattle.filter.specs.Filter.{empty, pushed, averageOf};
-ghost use Rattle.calculations.specs.Frames.{irCall, passCall, steadied, Infrareds, Passes};
-ghost use Rattle.border.specs.Record.{recordIn, subpageOf};
-ghost use Rattle.capi_frames.specs.Border.{ramIn, supplyIn, reflectedIn, Carried};
-ghost use Rattle.capi_filter.specs.Border.{averageOut, steadiedIn};
-use border::Record;
+ghost use Rattle.frames.specs.Frames.{steadied, Infrareds, Passes};
+ghost use Rattle.frames.specs.Ranged.{RangedPasses};
+ghost use Rattle.calculations.specs.Frames.{irCall, passCall};
+ghost use Rattle.capi_record.specs.Record.{recordIn};
+ghost use Rattle.capi_frames.specs.Border.{inputIn, Carried};
+ghost use Rattle.capi_filter.specs.Border.{averageOut, steadiedIn, filteredIn};
+use calculations::FilteredInput;
 use capi_frames::Answer;
-use capi_frames::Ram;
+use capi_frames::Input;
+use capi_record::Record;
 use filter::Filter;
 use filter::Steadied;
-use formulas::Supply;
 use offsets::Offset;
 
 // What a filter answers: the average of the last 16 readings, or +0 and the flag 0 where fewer are in.
@@ -18,6 +20,13 @@ use offsets::Offset;
 pub struct Average {
     pub average: f32,
     pub ready: u8,
+}
+
+// What a filtered frame is read with: as the plain one, and what the filter answers. The flag 0 is not yet.
+#[repr(C)]
+pub struct Filtered {
+    pub input: Input,
+    pub compensation: Average,
 }
 
 // A filter with no reading in it. To reset a filter is to go on with this one.
@@ -56,27 +65,32 @@ pub extern "C" fn loamchalice_filter_average(filter: Filter) -> Average
     average_out(filter::average(filter))
 }
 
-fn steadied_in(ready: u8, average: f32) -> Steadied
-    ensures { λ r. ⌜ r ≡ steadiedIn ready average ⌝ }
+fn steadied_in(average: Average) -> Steadied
+    ensures { λ r. ⌜ r ≡ steadiedIn average ⌝ }
 {
-    if ready == 0 {
+    if average.ready == 0 {
         Steadied::NotYet
     } else {
-        Steadied::Average(average)
+        Steadied::Average(average.average)
     }
 }
 
-// Pixels to infrared numbers, with a filter's answer for the compensation pixel; the flag 0 is not yet. Refusals 2, 7, 8; after one the destination is as before.
+fn filtered_in(filtered: Filtered) -> FilteredInput
+    ensures { λ r. ⌜ r ≡ filteredIn filtered ⌝ }
+{
+    let input = filtered.input;
+    let compensation = filtered.compensation;
+    FilteredInput {
+        input: capi_frames::input_in(input),
+        compensation: steadied_in(compensation),
+    }
+}
+
+// Pixels to infrared numbers, with a filter's answer for the compensation pixel. Refusals 2, 10, 7, 8; after one the destination is as before.
 #[no_mangle]
 pub extern "C" fn loamchalice_filtered_pixels_to_ir_data<'a>(
     calibration: Record,
-    emissivity: f32,
-    resolution_correction: f32,
-    v_dd_0: f32,
-    ram: Ram,
-    average_ready: u8,
-    average: f32,
-    subpage: u8,
+    filtered: Filtered,
     offsets0: &'a [Offset],
     offsets1: &'a [Offset],
     k_v: &[f32],
@@ -85,24 +99,14 @@ pub extern "C" fn loamchalice_filtered_pixels_to_ir_data<'a>(
     mask: &[u8],
     destination: &mut [u32],
 ) -> Answer
-    ensures { λ r. ⌜ Carried (Infrareds (irCall (recordIn calibration) emissivity (supplyIn «resolution_correction» «v_dd_0») (ramIn ram) (steadied (steadiedIn «average_ready» average) (ramIn ram)) (subpageOf subpage) (now (offsets0 .entry)) (now (offsets1 .entry)) (now («k_v» .entry)) (now («k_ta» .entry)) (now (pixels .entry)) (now (mask .entry)))
+    ensures { λ r. ⌜ Carried (Infrareds (irCall (recordIn calibration) (filteredIn filtered .input) (steadied (filteredIn filtered .compensation) (filteredIn filtered .input .ram)) (now (offsets0 .entry)) (now (offsets1 .entry)) (now («k_v» .entry)) (now («k_ta» .entry)) (now (pixels .entry)) (now (mask .entry)))
         (now (destination .entry)) (now (destination .exit))) r ⌝ }
 {
-    let inner = border::record_in(calibration);
-    let supply = Supply {
-        resolution_correction,
-        v_dd_0,
-    };
-    let words = capi_frames::ram_in(ram);
-    let compensation = steadied_in(average_ready, average);
-    let page = border::subpage_of(subpage);
-    let infrared = calculations::filtered_pixels_to_ir_data(
+    let record = capi_record::record_in(calibration);
+    let inner = filtered_in(filtered);
+    let frame = calculations::filtered_pixels_to_ir_data(
+        record,
         inner,
-        emissivity,
-        supply,
-        words,
-        compensation,
-        page,
         offsets0,
         offsets1,
         k_v,
@@ -111,23 +115,14 @@ pub extern "C" fn loamchalice_filtered_pixels_to_ir_data<'a>(
         mask,
         destination,
     );
-    capi_frames::frame_out(infrared)
+    capi_frames::frame_out(frame)
 }
 
-// Pixels to temperatures in one pass, with a filter's answer for the compensation pixel; the flag 0 is not yet. Refusals 2, 6, 7, 8; after one the destination is as before.
+// Pixels to temperatures in one pass, with a filter's answer for the compensation pixel. Refusals 2, 10, 6, 7, 8; after one the destination is as before.
 #[no_mangle]
 pub extern "C" fn loamchalice_filtered_pixels_to_temperatures<'a>(
     calibration: Record,
-    emissivity: f32,
-    resolution_correction: f32,
-    v_dd_0: f32,
-    ram: Ram,
-    average_ready: u8,
-    average: f32,
-    subpage: u8,
-    basic_range: usize,
-    reflected_given: u8,
-    reflected: f32,
+    filtered: Filtered,
     offsets0: &'a [Offset],
     offsets1: &'a [Offset],
     alpha: &[f32],
@@ -137,27 +132,14 @@ pub extern "C" fn loamchalice_filtered_pixels_to_temperatures<'a>(
     mask: &[u8],
     destination: &mut [u32],
 ) -> Answer
-    ensures { λ r. ⌜ Carried (Passes (passCall (irCall (recordIn calibration) emissivity (supplyIn «resolution_correction» «v_dd_0») (ramIn ram) (steadied (steadiedIn «average_ready» average) (ramIn ram)) (subpageOf subpage) (now (offsets0 .entry)) (now (offsets1 .entry)) (now («k_v» .entry)) (now («k_ta» .entry)) (now (pixels .entry)) (now (mask .entry))) «basic_range» (reflectedIn «reflected_given» reflected) (now (alpha .entry)))
+    ensures { λ r. ⌜ Carried (Passes (passCall (recordIn calibration) (irCall (recordIn calibration) (filteredIn filtered .input) (steadied (filteredIn filtered .compensation) (filteredIn filtered .input .ram)) (now (offsets0 .entry)) (now (offsets1 .entry)) (now («k_v» .entry)) (now («k_ta» .entry)) (now (pixels .entry)) (now (mask .entry))) (now (alpha .entry)))
         (now (destination .entry)) (now (destination .exit))) r ⌝ }
 {
-    let inner = border::record_in(calibration);
-    let supply = Supply {
-        resolution_correction,
-        v_dd_0,
-    };
-    let words = capi_frames::ram_in(ram);
-    let compensation = steadied_in(average_ready, average);
-    let asked = border::subpage_of(subpage);
-    let source = capi_frames::reflected_in(reflected_given, reflected);
-    let passed = calculations::filtered_pixels_to_temperatures(
+    let record = capi_record::record_in(calibration);
+    let inner = filtered_in(filtered);
+    let frame = calculations::filtered_pixels_to_temperatures(
+        record,
         inner,
-        emissivity,
-        supply,
-        words,
-        compensation,
-        asked,
-        basic_range,
-        source,
         offsets0,
         offsets1,
         alpha,
@@ -167,5 +149,39 @@ pub extern "C" fn loamchalice_filtered_pixels_to_temperatures<'a>(
         mask,
         destination,
     );
-    capi_frames::frame_out(passed)
+    capi_frames::frame_out(frame)
+}
+
+// The second pass, with a filter's answer for the compensation pixel. Refusals 2, 10, 6, 7, 8, 12; after one the destination is as before.
+#[no_mangle]
+pub extern "C" fn loamchalice_filtered_pixels_to_ranged_temperatures<'a>(
+    calibration: Record,
+    filtered: Filtered,
+    offsets0: &'a [Offset],
+    offsets1: &'a [Offset],
+    alpha: &[f32],
+    k_v: &[f32],
+    k_ta: &[f32],
+    pixels: &[u8],
+    mask: &[u8],
+    destination: &mut [u32],
+) -> Answer
+    ensures { λ r. ⌜ Carried (RangedPasses (passCall (recordIn calibration) (irCall (recordIn calibration) (filteredIn filtered .input) (steadied (filteredIn filtered .compensation) (filteredIn filtered .input .ram)) (now (offsets0 .entry)) (now (offsets1 .entry)) (now («k_v» .entry)) (now («k_ta» .entry)) (now (pixels .entry)) (now (mask .entry))) (now (alpha .entry)))
+        (now (destination .entry)) (now (destination .exit))) r ⌝ }
+{
+    let record = capi_record::record_in(calibration);
+    let inner = filtered_in(filtered);
+    let frame = calculations::filtered_pixels_to_ranged_temperatures(
+        record,
+        inner,
+        offsets0,
+        offsets1,
+        alpha,
+        k_v,
+        k_ta,
+        pixels,
+        mask,
+        destination,
+    );
+    capi_frames::frame_out(frame)
 }

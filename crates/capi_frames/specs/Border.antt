@@ -2,17 +2,19 @@
 use Prim.Native.Nat.{ℕ}
 use mathlib.Core.Path.{_≡_}
 use lib.Dec.{eqb}
-use lib.Ieee.{Float}
 use Rattle.lists.specs.Pick.{pick}
 use Rattle.refusal.specs.Refusal.{toldOf}
 use Rattle.formulas.specs.declared.RamData.{RamData}
-use Rattle.formulas.specs.declared.Reflected.{Reflected}
 use Rattle.formulas.specs.declared.Reflected.the-variants.{Given, Ambient}
-use Rattle.formulas.specs.declared.Supply.{Supply}
-use Rattle.calculations.specs.declared.Frame.{Frame}
-use Rattle.calculations.specs.declared.Frame.the-variants.{Done, Refused}
+use Rattle.formulas.specs.declared.Settings as inner
+use Rattle.frames.specs.declared.Frame.{Frame}
+use Rattle.frames.specs.declared.Frame.the-variants.{Done, Refused}
+use Rattle.calculations.specs.declared.Input as frame
+use Rattle.capi_record.specs.Record.{subpageOf}
 use Rattle.capi_frames.specs.declared.Answer.{Answer}
+use Rattle.capi_frames.specs.declared.Input.{Input}
 use Rattle.capi_frames.specs.declared.Ram.{Ram}
+use Rattle.capi_frames.specs.declared.Settings.{Settings}
 
 -- ---- what C hands in
 
@@ -25,12 +27,18 @@ ramIn m = record {
   «compensation_pixel» = m .«compensation_pixel»;
 }
 
-abbrev pub supplyIn : Float → Float → Supply
-supplyIn correction nominal = record { «resolution_correction» = correction; «v_dd_0» = nominal }
+-- the flag 0 is the ambient temperature less self-heating
+abbrev pub settingsIn : Settings → inner.Settings
+settingsIn s = record {
+  emissivity = s .emissivity;
+  «resolution_correction» = s .«resolution_correction»;
+  «v_dd_0» = s .«v_dd_0»;
+  «basic_range» = s .«basic_range»;
+  reflected = pick (eqb (s .«reflected_given») 0) (Ambient (s .«self_heating»)) (Given (s .reflected));
+}
 
--- the flag 0 is the ambient temperature less the number
-abbrev pub reflectedIn : ℕ → Float → Reflected
-reflectedIn given x = pick (eqb given 0) (Ambient x) (Given x)
+abbrev pub inputIn : Input → frame.Input
+inputIn f = record { settings = settingsIn (f .settings); ram = ramIn (f .ram); subpage = subpageOf (f .subpage) }
 
 -- ---- and gets
 

@@ -1,13 +1,14 @@
 // Frames for C and Rust: each call hands its arguments on and promises what the inner call does.
 ghost use mathlib.Core.Path.{_≡_};
-ghost use Rattle.calculations.specs.Frames.{irCall, toCall, passCall, ownReading, Infrareds, Temperatures, Passes};
-ghost use Rattle.border.specs.Record.{recordIn, subpageOf};
-ghost use Rattle.capi_frames.specs.Border.{ramIn, supplyIn, reflectedIn, frameOut, Carried};
-use border::Record;
-use calculations::Frame;
+ghost use Rattle.frames.specs.Frames.{ownReading, Infrareds, Temperatures, Passes};
+ghost use Rattle.frames.specs.Ranged.{RangedPasses};
+ghost use Rattle.calculations.specs.Frames.{irCall, toCall, passCall};
+ghost use Rattle.capi_record.specs.Record.{recordIn};
+ghost use Rattle.capi_frames.specs.Border.{ramIn, settingsIn, inputIn, frameOut, Carried};
+use capi_record::Record;
 use formulas::RamData;
 use formulas::Reflected;
-use formulas::Supply;
+use frames::Frame;
 use offsets::Offset;
 
 // What a frame reads beside its pixels.
@@ -18,6 +19,26 @@ pub struct Ram {
     pub v_dd_pixel: i16,
     pub gain: i16,
     pub compensation_pixel: i16,
+}
+
+// The caller's numbers. Where `reflected_given` is 0 the reflected temperature is the ambient one less `self_heating`, and `reflected` is not looked at.
+#[repr(C)]
+pub struct Settings {
+    pub basic_range: usize,
+    pub emissivity: f32,
+    pub resolution_correction: f32,
+    pub v_dd_0: f32,
+    pub self_heating: f32,
+    pub reflected: f32,
+    pub reflected_given: u8,
+}
+
+// What a frame is read with beside the card's record and tables. Subpage 0 is the first, any other number the second.
+#[repr(C)]
+pub struct Input {
+    pub settings: Settings,
+    pub ram: Ram,
+    pub subpage: u8,
 }
 
 // What a frame answers: number, place and value of the refusal, all 0 for none; the bits of the ambient temperature, and how many
@@ -31,7 +52,7 @@ pub struct Answer {
     pub t_a: u32,
 }
 
-pub fn ram_in(ram: Ram) -> RamData
+fn ram_in(ram: Ram) -> RamData
     ensures { λ r. ⌜ r ≡ ramIn ram ⌝ }
 {
     RamData {
@@ -43,16 +64,34 @@ pub fn ram_in(ram: Ram) -> RamData
     }
 }
 
-// The reflected temperature where it is given, else the self-heating that the ambient temperature loses.
-pub fn reflected_in(given: u8, number: f32) -> Reflected
-    ensures { λ r. ⌜ r ≡ reflectedIn given number ⌝ }
+fn settings_in(settings: Settings) -> formulas::Settings
+    ensures { λ r. ⌜ r ≡ settingsIn settings ⌝ }
 {
-    if given == 0 {
+    let reflected = if settings.reflected_given == 0 {
         Reflected::Ambient {
-            self_heating: number,
+            self_heating: settings.self_heating,
         }
     } else {
-        Reflected::Given(number)
+        Reflected::Given(settings.reflected)
+    };
+    formulas::Settings {
+        emissivity: settings.emissivity,
+        resolution_correction: settings.resolution_correction,
+        v_dd_0: settings.v_dd_0,
+        basic_range: settings.basic_range,
+        reflected,
+    }
+}
+
+pub fn input_in(input: Input) -> calculations::Input
+    ensures { λ r. ⌜ r ≡ inputIn input ⌝ }
+{
+    let settings = input.settings;
+    let ram = input.ram;
+    calculations::Input {
+        settings: settings_in(settings),
+        ram: ram_in(ram),
+        subpage: capi_record::subpage_of(input.subpage),
     }
 }
 
@@ -80,15 +119,11 @@ pub fn frame_out(frame: Frame) -> Answer
     }
 }
 
-// Pixels to infrared numbers, into the destination as their bits. Refusals 2, 7, 8; after one the destination is as before.
+// Pixels to infrared numbers, into the destination as their bits. Refusals 2, 10, 7, 8; after one the destination is as before.
 #[no_mangle]
 pub extern "C" fn loamchalice_raw_pixels_to_ir_data<'a>(
     calibration: Record,
-    emissivity: f32,
-    resolution_correction: f32,
-    v_dd_0: f32,
-    ram: Ram,
-    subpage: u8,
+    input: Input,
     offsets0: &'a [Offset],
     offsets1: &'a [Offset],
     k_v: &[f32],
@@ -97,22 +132,14 @@ pub extern "C" fn loamchalice_raw_pixels_to_ir_data<'a>(
     mask: &[u8],
     destination: &mut [u32],
 ) -> Answer
-    ensures { λ r. ⌜ Carried (Infrareds (irCall (recordIn calibration) emissivity (supplyIn «resolution_correction» «v_dd_0») (ramIn ram) (ownReading (ramIn ram)) (subpageOf subpage) (now (offsets0 .entry)) (now (offsets1 .entry)) (now («k_v» .entry)) (now («k_ta» .entry)) (now (pixels .entry)) (now (mask .entry)))
+    ensures { λ r. ⌜ Carried (Infrareds (irCall (recordIn calibration) (inputIn input) (ownReading (inputIn input .ram)) (now (offsets0 .entry)) (now (offsets1 .entry)) (now («k_v» .entry)) (now («k_ta» .entry)) (now (pixels .entry)) (now (mask .entry)))
         (now (destination .entry)) (now (destination .exit))) r ⌝ }
 {
-    let inner = border::record_in(calibration);
-    let supply = Supply {
-        resolution_correction,
-        v_dd_0,
-    };
-    let words = ram_in(ram);
-    let page = border::subpage_of(subpage);
-    let infrared = calculations::raw_pixels_to_ir_data(
+    let record = capi_record::record_in(calibration);
+    let inner = input_in(input);
+    let frame = calculations::raw_pixels_to_ir_data(
+        record,
         inner,
-        emissivity,
-        supply,
-        words,
-        page,
         offsets0,
         offsets1,
         k_v,
@@ -121,52 +148,33 @@ pub extern "C" fn loamchalice_raw_pixels_to_ir_data<'a>(
         mask,
         destination,
     );
-    frame_out(infrared)
+    frame_out(frame)
 }
 
-// Infrared numbers to temperatures, in place, both as their bits. Refusals 2, 6, 8; after one the destination is as before.
+// Infrared numbers to temperatures, in place, both as their bits. Refusals 2, 10, 6, 8; after one the destination is as before.
 #[no_mangle]
 pub extern "C" fn loamchalice_raw_ir_to_temperatures(
     calibration: Record,
-    emissivity: f32,
+    settings: Settings,
     t_a: f32,
-    basic_range: usize,
-    reflected_given: u8,
-    reflected: f32,
     alpha: &[f32],
     mask: &[u8],
     destination: &mut [u32],
 ) -> Answer
-    ensures { λ r. ⌜ Carried (Temperatures (toCall (recordIn calibration) emissivity «t_a» «basic_range» (reflectedIn «reflected_given» reflected) (now (alpha .entry)) (now (mask .entry)))
+    ensures { λ r. ⌜ Carried (Temperatures (toCall (recordIn calibration) (settingsIn settings) «t_a» (now (alpha .entry)) (now (mask .entry)))
         (now (destination .entry)) (now (destination .exit))) r ⌝ }
 {
-    let inner = border::record_in(calibration);
-    let around = reflected_in(reflected_given, reflected);
-    let temperatures = calculations::raw_ir_to_temperatures(
-        inner,
-        emissivity,
-        t_a,
-        basic_range,
-        around,
-        alpha,
-        mask,
-        destination,
-    );
-    frame_out(temperatures)
+    let record = capi_record::record_in(calibration);
+    let inner = settings_in(settings);
+    let frame = calculations::raw_ir_to_temperatures(record, inner, t_a, alpha, mask, destination);
+    frame_out(frame)
 }
 
-// Pixels to temperatures in one pass, into the destination as their bits. Refusals 2, 6, 7, 8; after one the destination is as before.
+// Pixels to temperatures in one pass, into the destination as their bits. Refusals 2, 10, 6, 7, 8; after one the destination is as before.
 #[no_mangle]
 pub extern "C" fn loamchalice_raw_pixels_to_temperatures<'a>(
     calibration: Record,
-    emissivity: f32,
-    resolution_correction: f32,
-    v_dd_0: f32,
-    ram: Ram,
-    subpage: u8,
-    basic_range: usize,
-    reflected_given: u8,
-    reflected: f32,
+    input: Input,
     offsets0: &'a [Offset],
     offsets1: &'a [Offset],
     alpha: &[f32],
@@ -176,25 +184,14 @@ pub extern "C" fn loamchalice_raw_pixels_to_temperatures<'a>(
     mask: &[u8],
     destination: &mut [u32],
 ) -> Answer
-    ensures { λ r. ⌜ Carried (Passes (passCall (irCall (recordIn calibration) emissivity (supplyIn «resolution_correction» «v_dd_0») (ramIn ram) (ownReading (ramIn ram)) (subpageOf subpage) (now (offsets0 .entry)) (now (offsets1 .entry)) (now («k_v» .entry)) (now («k_ta» .entry)) (now (pixels .entry)) (now (mask .entry))) «basic_range» (reflectedIn «reflected_given» reflected) (now (alpha .entry)))
+    ensures { λ r. ⌜ Carried (Passes (passCall (recordIn calibration) (irCall (recordIn calibration) (inputIn input) (ownReading (inputIn input .ram)) (now (offsets0 .entry)) (now (offsets1 .entry)) (now («k_v» .entry)) (now («k_ta» .entry)) (now (pixels .entry)) (now (mask .entry))) (now (alpha .entry)))
         (now (destination .entry)) (now (destination .exit))) r ⌝ }
 {
-    let inner = border::record_in(calibration);
-    let supply = Supply {
-        resolution_correction,
-        v_dd_0,
-    };
-    let words = ram_in(ram);
-    let asked = border::subpage_of(subpage);
-    let source = reflected_in(reflected_given, reflected);
-    let passed = calculations::raw_pixels_to_temperatures(
+    let record = capi_record::record_in(calibration);
+    let inner = input_in(input);
+    let frame = calculations::raw_pixels_to_temperatures(
+        record,
         inner,
-        emissivity,
-        supply,
-        words,
-        asked,
-        basic_range,
-        source,
         offsets0,
         offsets1,
         alpha,
@@ -204,5 +201,40 @@ pub extern "C" fn loamchalice_raw_pixels_to_temperatures<'a>(
         mask,
         destination,
     );
-    frame_out(passed)
+    frame_out(frame)
+}
+
+// The second pass: pixels to temperatures, each by the range that holds it, into the destination as their bits. Refusals 2, 10, 6, 7, 8, 12; after one
+// the destination is as before.
+#[no_mangle]
+pub extern "C" fn loamchalice_raw_pixels_to_ranged_temperatures<'a>(
+    calibration: Record,
+    input: Input,
+    offsets0: &'a [Offset],
+    offsets1: &'a [Offset],
+    alpha: &[f32],
+    k_v: &[f32],
+    k_ta: &[f32],
+    pixels: &[u8],
+    mask: &[u8],
+    destination: &mut [u32],
+) -> Answer
+    ensures { λ r. ⌜ Carried (RangedPasses (passCall (recordIn calibration) (irCall (recordIn calibration) (inputIn input) (ownReading (inputIn input .ram)) (now (offsets0 .entry)) (now (offsets1 .entry)) (now («k_v» .entry)) (now («k_ta» .entry)) (now (pixels .entry)) (now (mask .entry))) (now (alpha .entry)))
+        (now (destination .entry)) (now (destination .exit))) r ⌝ }
+{
+    let record = capi_record::record_in(calibration);
+    let inner = input_in(input);
+    let frame = calculations::raw_pixels_to_ranged_temperatures(
+        record,
+        inner,
+        offsets0,
+        offsets1,
+        alpha,
+        k_v,
+        k_ta,
+        pixels,
+        mask,
+        destination,
+    );
+    frame_out(frame)
 }

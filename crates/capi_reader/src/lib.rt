@@ -32,7 +32,7 @@ fn answer_out(answer: Answer) -> Load
     let inner = loaded.calibration;
     let mending = loaded.mending;
     let told = verdict.told();
-    let calibration = border::record_out(inner);
+    let calibration = capi_record::record_out(inner);
     Load {
         number: told.number,
         place: told.place,

@@ -23,6 +23,7 @@ use Rattle.util.proofs.Width.{stands}
 use Rattle.hamming.specs.Word.{dataValues}
 use Rattle.map.specs.declared.Field.the-variants.{Corner}
 use Rattle.map.specs.Map.{wordOf}
+use Rattle.ranges.specs.Coefficients as shared
 use Rattle.calibration.specs.Calibration.{kSTo, rangesOf}
 use Rattle.calibration.specs.Coefficients.{rangeCount, growth, above, below, coefficientAt, zeroFactor}
 
@@ -93,7 +94,7 @@ module _ (w : ℕ → ℕ) where
 
   -- ranges 0 to 3
   growth-some : (r : ℕ) → r < 4 → Some (growth (rangesOf w) r)
-  unfolding growth rangesOf
+  unfolding shared.growth rangesOf
   growth-some zero h = grown-some (kSTo w 0) (k-ratio 0) 4 (omega arith)
   growth-some (suc zero) h = grown-some (kSTo w 1) (k-ratio 1) 4 (omega arith)
   growth-some (suc (suc zero)) h = grown-some (kSTo w 2) (k-ratio 2) 16 (omega arith)
@@ -112,7 +113,7 @@ module _ (w : ℕ → ℕ) where
         grown x k (pos a -ℤ pos b) 2047 (2 ^ 21) (apart a b h l) (omega arith) (omega arith)
 
     growth-within : (r : ℕ) → r < 7 → Within (growth (rangesOf w) r) (2 ^ (top (suc r) - top r))
-    unfolding growth rangesOf
+    unfolding shared.growth rangesOf
     growth-within zero h = grown (kSTo w 0) (k-ratio 0) (pos 20) 20 (2 ^ 15) (omega arith) (omega arith) (omega arith)
     growth-within (suc zero) h = grown (kSTo w 1) (k-ratio 1) (pos 20) 20 (2 ^ 15) (omega arith) (omega arith) (omega arith)
     growth-within (suc (suc zero)) h = grown (kSTo w 2) (k-ratio 2) (pos 80) 80 (2 ^ 17) (omega arith) (omega arith) (omega arith)
@@ -126,7 +127,7 @@ module _ (w : ℕ → ℕ) where
 
     -- from the basic range up
     above-within : (b n : ℕ) → b + n ≤ 7 → Within (above (rangesOf w) b n) (2 ^ top (b + n))
-    unfolding above ofBits
+    unfolding shared.above ofBits
     above-within b zero h = within-more one 1 (2 ^ top (b + 0)) (pow-pos (top (b + 0))) (omega arith)
     above-within b (suc n) h =
         let u = rises (b + n) (omega arith) in
@@ -137,7 +138,7 @@ module _ (w : ℕ → ℕ) where
 
     -- and down, where nothing that is divided by is a zero
     below-number : (b n : ℕ) → n ≤ b → b ≤ 7 → ((r : ℕ) → r < b → isZero (growth (rangesOf w) r) ≡ false) → isNan (below (rangesOf w) b n) ≡ false
-    unfolding below ofBits isNan
+    unfolding shared.below ofBits isNan
     below-number b zero h l f = refl
     below-number b (suc n) h l f =
         let r : ℕ = b - suc n in
@@ -146,7 +147,7 @@ module _ (w : ℕ → ℕ) where
         (not-zero-some (growth (rangesOf w) r) (2 ^ (top (suc r) - top r)) v (f r (omega arith)))
 
     pub coefficient-number : (b r : ℕ) → b ≤ 7 → r ≤ 7 → ((r : ℕ) → r < b → isZero (growth (rangesOf w) r) ≡ false) → isNan (coefficientAt (rangesOf w) b r) ≡ false
-    unfolding coefficientAt
+    unfolding shared.coefficientAt
     coefficient-number b r h l f = by (ltb r b) refl
       where
         by : (c : Bool) → ltb r b ≡ c → isNan (pick c (below (rangesOf w) b (b - r)) (above (rangesOf w) b (r - b))) ≡ false
@@ -181,6 +182,6 @@ none-found p none (suc n) f = rw (f n (omega arith)) (none-found p none n (λ r 
 
 -- a basic range of 4 or less meets none
 pub no-zero-factor : (w : ℕ → ℕ) (range : ℕ) → range ≤ 4 → zeroFactor (rangesOf w) range ≡ rangeCount
-unfolding zeroFactor
+unfolding shared.zeroFactor
 no-zero-factor w range h =
     none-found (λ (r : ℕ). isZero (growth (rangesOf w) r)) rangeCount range (λ r l. some-not-zero (growth (rangesOf w) r) (growth-some w r (omega arith)))

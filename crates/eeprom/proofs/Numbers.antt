@@ -37,7 +37,8 @@ use Rattle.map.specs.Map.{wordOf, framePixels}
 use Rattle.card.specs.Card.{dataAt, firstDamaged}
 use Rattle.offsets.specs.Offsets.{offsetScale}
 use Rattle.card.proofs.Data.{data-lt}
-use Rattle.calibration.specs.declared.Gradient.the-variants.{Coefficient, Missing}
+use Rattle.camera.specs.declared.Gradient.the-variants.{Coefficient, Missing}
+use Rattle.ranges.specs.Coefficients as shared
 use Rattle.calibration.specs.Calibration.{single, double, kSTo, rangesOf, calibrationOf, noCalibration}
 use Rattle.calibration.specs.Coefficients.{rangeCount, growth, coefficientAt, zeroFactor}
 use Rattle.tables.specs.declared.K.{K}
@@ -203,7 +204,7 @@ no-zeros image range t e =
 
 module _ (image : List ℕ) (range : ℕ) (before : Tables) where
   by-verdict : (v : Verdict) → v ≡ loadVerdict image range before → NumberRecord (unless v (calibrationOf (dataAt image) range) noCalibration)
-  unfolding zeroFactor
+  unfolding shared.zeroFactor
   by-verdict Pass e =
       let o = opened image range before (sym e) in
       let i = o .inside in

@@ -9,8 +9,8 @@ use lib.ListN.{length, take, drop, length-take, length-drop}
 use borrow.Author.Tests.{lt-ltb, le-ltb}
 use Rattle.lists.specs.Pick.{pick}
 use Rattle.map.specs.Map.{imageBytes, framePixels}
-use Rattle.eeprom.specs.declared.Subpage.{Subpage}
-use Rattle.eeprom.specs.declared.Subpage.the-variants.{Zero, One}
+use Rattle.camera.specs.declared.Subpage.{Subpage}
+use Rattle.camera.specs.declared.Subpage.the-variants.{Zero, One}
 use Rattle.eeprom.specs.Parts.{rowOf, first192, offsetsOf}
 
 -- a table that is not short has 192 first entries

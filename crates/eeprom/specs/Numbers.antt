@@ -9,7 +9,7 @@ use Rattle.refusal.specs.declared.Refusal.the-variants.{ZeroFactor}
 use Rattle.refusal.specs.declared.Verdict.the-variants.{Pass, Refused}
 use Rattle.map.specs.Map.{framePixels}
 use Rattle.calibration.specs.declared.Calibration.{Calibration}
-use Rattle.calibration.specs.declared.Gradient.the-variants.{Coefficient}
+use Rattle.camera.specs.declared.Gradient.the-variants.{Coefficient}
 use Rattle.calibration.specs.Coefficients.{rangeCount}
 use Rattle.eeprom.specs.declared.Loaded.{Loaded}
 use Rattle.eeprom.specs.Load.{Tables, loadVerdict}

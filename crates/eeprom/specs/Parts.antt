@@ -6,8 +6,8 @@ use lib.IntN.{ℤ}
 use lib.ListN.{length, take, drop}
 use Rattle.lists.specs.Pick.{pick}
 use Rattle.map.specs.Map.{imageBytes, framePixels}
-use Rattle.eeprom.specs.declared.Subpage.{Subpage}
-use Rattle.eeprom.specs.declared.Subpage.the-variants.{Zero, One}
+use Rattle.camera.specs.declared.Subpage.{Subpage}
+use Rattle.camera.specs.declared.Subpage.the-variants.{Zero, One}
 
 -- the 64 bytes of a row of alpha, 0 to 5; a higher row or a short image gives the empty part
 unfoldable pub rowOf : List ℕ → ℕ → List ℕ

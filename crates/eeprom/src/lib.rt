@@ -14,10 +14,11 @@ ghost use Rattle.eeprom.specs.Load.{tables, filledTables, dataTests, loa
 ghost use Rattle.eeprom.specs.Inner.{Passed};
 ghost use Rattle.eeprom.specs.Parts.{rowOf, first192, offsetsOf};
 use calibration::Calibration;
-use calibration::RANGES;
+use camera::Subpage;
 use card::Mending;
 use map::IMAGE_BYTES;
 use map::PIXELS;
+use map::RANGES;
 use map::WORDS;
 use map::Words;
 use offsets::Offset;
@@ -38,11 +39,6 @@ pub struct Loaded {
 pub struct Gated {
     pub verdict: Verdict,
     pub mending: Mending,
-}
-
-pub enum Subpage {
-    Zero,
-    One,
 }
 
 // The length of the shortest of five tables.

@@ -4,12 +4,12 @@ use lib.Ieee.{Float}
 use Rattle.floats.specs.Floats.{_⊕_, _⊖_, _⊗_, _⊘_, real}
 use Rattle.floats.specs.Constants.{one, twentyFive, freezing}
 use Rattle.root.specs.Root.{root}
-use Rattle.calibration.specs.declared.Calibration.{Calibration}
-use Rattle.calibration.specs.declared.Gradient.{Gradient}
-use Rattle.calibration.specs.declared.Gradient.the-variants.{Coefficient, Missing}
+use Rattle.formulas.specs.declared.Constants.{Constants}
+use Rattle.camera.specs.declared.Gradient.{Gradient}
+use Rattle.camera.specs.declared.Gradient.the-variants.{Coefficient, Missing}
 use Rattle.formulas.specs.declared.CommonIrData.{CommonIrData}
 use Rattle.formulas.specs.declared.CommonToData.{CommonToData}
-use Rattle.formulas.specs.declared.Reflected.{Reflected}
+use Rattle.formulas.specs.declared.Settings.{Settings}
 use Rattle.formulas.specs.declared.Deduction.{Deduction}
 use Rattle.formulas.specs.declared.Deduction.the-variants.{Nothing, Amount}
 use Rattle.formulas.specs.Pixel.{plainOf, cube, fourth, reflectedOf, tArOf}
@@ -24,23 +24,23 @@ abbrev pub deductionBy : Gradient → (Float → Float) → Deduction
 deductionBy (Coefficient g) y = Amount (y g)
 deductionBy Missing y = Nothing
 
-unfoldable pub compensationOf : Calibration → CommonIrData → Float → Deduction
-compensationOf c common reading =
+unfoldable pub compensationOf : Constants → CommonIrData → Float → Float → Deduction
+compensationOf c common reading access =
     deductionBy (c .«temperature_gradient_coefficient»)
-    (λ (g : Float). g ⊗ plainOf common reading (real (c .«offset_reference_cp»)) (c .«k_v_cp») (c .«k_ta_cp»))
+    (λ (g : Float). g ⊗ plainOf common reading (real (c .«offset_reference_cp»)) (c .«k_v_cp») (c .«k_ta_cp») access)
 
-unfoldable pub alphaDeductionOf : Calibration → Deduction
+unfoldable pub alphaDeductionOf : Constants → Deduction
 alphaDeductionOf c = deductionBy (c .«temperature_gradient_coefficient») (λ (g : Float). c .«alpha_cp» ⊗ g)
 
-unfoldable pub correctionOf : Calibration → Float → Float
+unfoldable pub correctionOf : Constants → Float → Float
 correctionOf c tA = one ⊕ c .«k_s_ta» ⊗ (tA ⊖ twentyFive)
 
 -- what all pixels share, k being K_sTo of the basic range
-unfoldable pub commonToOf : Calibration → Float → Float → Reflected → Float → CommonToData
-commonToOf c emissivity tA reflected k = record {
+unfoldable pub commonToOf : Constants → Settings → Float → Float → CommonToData
+commonToOf c settings tA k = record {
   «alpha_deduction» = alphaDeductionOf c;
   correction = correctionOf c tA;
-  «t_ar» = tArOf tA (reflectedOf reflected tA) emissivity;
+  «t_ar» = tArOf tA (reflectedOf (settings .reflected) tA) (settings .emissivity);
   «k_s_to» = k;
   slope = one ⊖ k ⊗ freezing;
 }

@@ -2,12 +2,13 @@
 use lib.Ieee.{Float, eq, isNan}
 use Rattle.lists.specs.Pick.{pick}
 use Rattle.floats.specs.Floats.{_⊕_, _⊖_, _⊗_, _⊘_, real}
-use Rattle.floats.specs.Constants.{plusZero, one, threePointThree, twentyFive, freezing}
+use Rattle.floats.specs.Constants.{one, threePointThree, twentyFive, freezing}
 use Rattle.root.specs.Root.{root, celsius}
-use Rattle.calibration.specs.declared.Calibration.{Calibration}
-use Rattle.calibration.specs.declared.Gradient.{Gradient}
-use Rattle.calibration.specs.declared.Gradient.the-variants.{Coefficient, Missing}
+use Rattle.formulas.specs.declared.Constants.{Constants}
+use Rattle.camera.specs.declared.Gradient.{Gradient}
+use Rattle.camera.specs.declared.Gradient.the-variants.{Coefficient, Missing}
 use Rattle.formulas.specs.declared.CommonIrData.{CommonIrData}
+use Rattle.formulas.specs.declared.Range.{Range}
 use Rattle.formulas.specs.declared.Reflected.{Reflected}
 use Rattle.formulas.specs.declared.Reflected.the-variants.{Given, Ambient}
 use Rattle.formulas.specs.declared.Pixel.{Pixel}
@@ -18,17 +19,18 @@ abbrev pub less : Gradient → (Float → Float) → Float → Float
 less (Coefficient g) y x = x ⊖ y g
 less Missing y x = x
 
--- ((pixel × gain + 0) - (offset × (1 + K_Ta × (t_a - 25))) × (1 + K_V × (supply - 3.3))) / emissivity
-unfoldable pub plainOf : CommonIrData → Float → Float → Float → Float → Float
-plainOf c pixel offset kV kTa =
-    (pixel ⊗ c .gain ⊕ plusZero ⊖ offset ⊗ (one ⊕ kTa ⊗ (c .«t_a» ⊖ twentyFive)) ⊗ (one ⊕ kV ⊗ (c .«v_dd» ⊖ threePointThree))) ⊘ c .emissivity
+-- ((pixel × gain + access) - (offset × (1 + K_Ta × (t_a - 25))) × (1 + K_V × (supply - 3.3))) / emissivity; the access term is 0 but where a camera
+-- reads in interleave mode
+unfoldable pub plainOf : CommonIrData → Float → Float → Float → Float → Float → Float
+plainOf c pixel offset kV kTa access =
+    (pixel ⊗ c .gain ⊕ access ⊖ offset ⊗ (one ⊕ kTa ⊗ (c .«t_a» ⊖ twentyFive)) ⊗ (one ⊕ kV ⊗ (c .«v_dd» ⊖ threePointThree))) ⊘ c .emissivity
 
--- v: with a gradient, subtract gradient × (the same for the compensation pixel), whose reading is handed in
-unfoldable pub infraredOf : Calibration → CommonIrData → Float → Float → Float → Float → Float → Float
-infraredOf c common compensation pixel offset kV kTa =
+-- v: with a gradient, subtract gradient × (the same for the compensation pixel), whose reading and access term are handed in
+unfoldable pub infraredOf : Constants → CommonIrData → Float → Float → Float → Float → Float → Float → Float → Float
+infraredOf c common compensation accessCp pixel offset kV kTa access =
     less (c .«temperature_gradient_coefficient»)
-    (λ (g : Float). g ⊗ plainOf common compensation (real (c .«offset_reference_cp»)) (c .«k_v_cp») (c .«k_ta_cp»))
-    (plainOf common pixel offset kV kTa)
+    (λ (g : Float). g ⊗ plainOf common compensation (real (c .«offset_reference_cp»)) (c .«k_v_cp») (c .«k_ta_cp») accessCp)
+    (plainOf common pixel offset kV kTa access)
 
 -- cube is (x·x)·x, fourth power (x·x)·(x·x)
 abbrev pub cube : Float → Float
@@ -50,7 +52,7 @@ tArOf tA tR emissivity =
     pick (eq emissivity one) a4 (r4 ⊖ (r4 ⊖ a4) ⊘ emissivity)
 
 -- A = (alpha - alpha_CP × gradient) × (1 + K_sTa × (t_a - 25)); without a gradient nothing is subtracted
-unfoldable pub sensitivityOf : Calibration → Float → Float → Float
+unfoldable pub sensitivityOf : Constants → Float → Float → Float
 sensitivityOf c tA alpha =
     less (c .«temperature_gradient_coefficient») (λ (g : Float). c .«alpha_cp» ⊗ g) alpha ⊗ (one ⊕ c .«k_s_ta» ⊗ (tA ⊖ twentyFive))
 
@@ -59,6 +61,10 @@ unfoldable pub finalOf : Float → Float → Float → Float → Float
 finalOf k tAr A v =
     let s = k ⊗ root (cube A ⊗ v ⊕ fourth A ⊗ tAr) in
     v ⊘ (A ⊗ (one ⊖ k ⊗ freezing) ⊕ s) ⊕ tAr
+
+-- document 02, CR 9: v / (A × coefficient × (1 + K × (temperature - T))) + t_ar, with the numbers of a range
+unfoldable pub rangedOf : Range → Float → Float → Float → Float → Float
+rangedOf r tAr A v t = v ⊘ (A ⊗ r .coefficient ⊗ (one ⊕ r .«k_s_to» ⊗ (t ⊖ r .corner))) ⊕ tAr
 
 -- a pixel gives a temperature, or the infrared number that had none
 abbrev pub decided : Float → Float → Pixel

@@ -3,10 +3,9 @@ ghost use mathlib.Core.Path.{_≡_};
 ghost use Rattle.floats.specs.Floats.{_⊖_};
 ghost use Rattle.floats.specs.Constants.{freezing};
 ghost use Rattle.formulas.specs.Frame.{deltaOf, supplyOf, denominatorOf, artOf, ptatCorrectionOf, ambientOf, commonOf};
-ghost use Rattle.formulas.specs.Pixel.{plainOf, fourth, reflectedOf, tArOf, decided};
+ghost use Rattle.formulas.specs.Pixel.{plainOf, fourth, reflectedOf, tArOf, rangedOf, decided};
 ghost use Rattle.formulas.specs.Inner.{deducted, compensationOf, alphaDeductionOf, correctionOf, commonToOf, liftedSensitivity, liftedUnder, liftedFrom};
-use calibration::Calibration;
-use calibration::Gradient;
+use camera::Gradient;
 
 // What a frame reads beside its pixels.
 pub struct RamData {
@@ -17,10 +16,30 @@ pub struct RamData {
     pub compensation_pixel: i16,
 }
 
-// The caller's numbers for the supply.
-pub struct Supply {
+// What the formulas read of a card's record, for one subpage.
+pub struct Constants {
+    pub k_v_dd: i16,
+    pub v_dd_25: i16,
+    pub k_v_ptat: f32,
+    pub k_t_ptat: f32,
+    pub v_ptat_25: f32,
+    pub alpha_ptat: f32,
+    pub gain: f32,
+    pub k_s_ta: f32,
+    pub alpha_cp: f32,
+    pub offset_reference_cp: i16,
+    pub k_v_cp: f32,
+    pub k_ta_cp: f32,
+    pub temperature_gradient_coefficient: Gradient,
+}
+
+// The caller's numbers.
+pub struct Settings {
+    pub emissivity: f32,
     pub resolution_correction: f32,
     pub v_dd_0: f32,
+    pub basic_range: usize,
+    pub reflected: Reflected,
 }
 
 // The four numbers common to all pixels.
@@ -52,6 +71,13 @@ pub struct CommonToData {
     pub slope: f32,
 }
 
+// The numbers of one temperature range: the corner that it begins at, its K_sTo and its coefficient.
+pub struct Range {
+    pub corner: f32,
+    pub k_s_to: f32,
+    pub coefficient: f32,
+}
+
 // A pixel gives a temperature, or the infrared number that had none.
 pub enum Pixel {
     Temperature(f32),
@@ -59,61 +85,55 @@ pub enum Pixel {
 }
 
 // The supply's difference from its reference, over K_VDD.
-pub fn delta_v(calibration: Calibration, ram: RamData) -> f32
-    ensures { λ r. ⌜ r ≡ deltaOf calibration ram ⌝ }
+pub fn delta_v(constants: Constants, ram: RamData) -> f32
+    ensures { λ r. ⌜ r ≡ deltaOf constants ram ⌝ }
 {
-    util::difference(ram.v_dd_pixel, calibration.v_dd_25) as f32 / calibration.k_v_dd as f32
+    util::difference(ram.v_dd_pixel, constants.v_dd_25) as f32 / constants.k_v_dd as f32
 }
 
-pub fn v_dd(supply: Supply, delta: f32) -> f32
-    ensures { λ r. ⌜ r ≡ supplyOf supply delta ⌝ }
+pub fn v_dd(settings: Settings, delta: f32) -> f32
+    ensures { λ r. ⌜ r ≡ supplyOf settings delta ⌝ }
 {
-    delta * supply.resolution_correction + supply.v_dd_0
+    delta * settings.resolution_correction + settings.v_dd_0
 }
 
 // The divisor in v_ptat_art.
-pub fn ptat_denominator(calibration: Calibration, ram: RamData) -> f32
-    ensures { λ r. ⌜ r ≡ denominatorOf calibration ram ⌝ }
+pub fn ptat_denominator(constants: Constants, ram: RamData) -> f32
+    ensures { λ r. ⌜ r ≡ denominatorOf constants ram ⌝ }
 {
-    ram.t_a_ptat as f32 * calibration.alpha_ptat + ram.t_a_v_be as f32
+    ram.t_a_ptat as f32 * constants.alpha_ptat + ram.t_a_v_be as f32
 }
 
-pub fn v_ptat_art(calibration: Calibration, ram: RamData) -> f32
-    ensures { λ r. ⌜ r ≡ artOf calibration ram ⌝ }
+pub fn v_ptat_art(constants: Constants, ram: RamData) -> f32
+    ensures { λ r. ⌜ r ≡ artOf constants ram ⌝ }
 {
-    ram.t_a_ptat as f32 / ptat_denominator(calibration, ram) * 262144.0
+    ram.t_a_ptat as f32 / ptat_denominator(constants, ram) * 262144.0
 }
 
 // The divisor of v_ptat_art in the ambient temperature.
-pub fn ptat_correction(calibration: Calibration, delta: f32) -> f32
-    ensures { λ r. ⌜ r ≡ ptatCorrectionOf calibration delta ⌝ }
+pub fn ptat_correction(constants: Constants, delta: f32) -> f32
+    ensures { λ r. ⌜ r ≡ ptatCorrectionOf constants delta ⌝ }
 {
-    1.0 + calibration.k_v_ptat * delta
+    1.0 + constants.k_v_ptat * delta
 }
 
-pub fn ambient_temperature(calibration: Calibration, art: f32, delta: f32) -> f32
-    ensures { λ r. ⌜ r ≡ ambientOf calibration art delta ⌝ }
+pub fn ambient_temperature(constants: Constants, art: f32, delta: f32) -> f32
+    ensures { λ r. ⌜ r ≡ ambientOf constants art delta ⌝ }
 {
-    (art / ptat_correction(calibration, delta) - calibration.v_ptat_25) / calibration.k_t_ptat
-        + 25.0
+    (art / ptat_correction(constants, delta) - constants.v_ptat_25) / constants.k_t_ptat + 25.0
 }
 
 // The four numbers of a frame.
-pub fn common_ir_data(
-    calibration: Calibration,
-    emissivity: f32,
-    supply: Supply,
-    ram: RamData,
-) -> CommonIrData
-    ensures { λ r. ⌜ r ≡ commonOf calibration emissivity supply ram ⌝ }
+pub fn common_ir_data(constants: Constants, settings: Settings, ram: RamData) -> CommonIrData
+    ensures { λ r. ⌜ r ≡ commonOf constants settings ram ⌝ }
 {
-    let delta = delta_v(calibration, ram);
-    let art = v_ptat_art(calibration, ram);
+    let delta = delta_v(constants, ram);
+    let art = v_ptat_art(constants, ram);
     CommonIrData {
-        gain: calibration.gain / ram.gain as f32,
-        v_dd: v_dd(supply, delta),
-        emissivity,
-        t_a: ambient_temperature(calibration, art, delta),
+        gain: constants.gain / ram.gain as f32,
+        v_dd: v_dd(settings, delta),
+        emissivity: settings.emissivity,
+        t_a: ambient_temperature(constants, art, delta),
     }
 }
 
@@ -127,29 +147,42 @@ pub fn deduct(x: f32, by: Deduction) -> f32
     }
 }
 
-// A pixel's infrared number before the gradient, from its reading, its offset and its coefficients as numbers.
-pub fn per_pixel_v_ir(reading: f32, common: CommonIrData, offset: f32, k_v: f32, k_ta: f32) -> f32
-    ensures { λ r. ⌜ r ≡ plainOf common reading offset «k_v» «k_ta» ⌝ }
+// A pixel's infrared number before the gradient, from its reading, its offset, its coefficients and its access term as numbers.
+pub fn per_pixel_v_ir(
+    reading: f32,
+    common: CommonIrData,
+    offset: f32,
+    k_v: f32,
+    k_ta: f32,
+    access: f32,
+) -> f32
+    ensures { λ r. ⌜ r ≡ plainOf common reading offset «k_v» «k_ta» access ⌝ }
 {
-    (reading * common.gain + 0.0
+    (reading * common.gain + access
         - (offset * (1.0 + k_ta * (common.t_a - 25.0))) * (1.0 + k_v * (common.v_dd - 3.3)))
         / common.emissivity
 }
 
-// What the compensation pixel deducts from every pixel's infrared number, from its reading.
-pub fn compensation(calibration: Calibration, common: CommonIrData, reading: f32) -> Deduction
-    ensures { λ r. ⌜ r ≡ compensationOf calibration common reading ⌝ }
+// What the compensation pixel deducts from every pixel's infrared number, from its reading and its access term.
+pub fn compensation(
+    constants: Constants,
+    common: CommonIrData,
+    reading: f32,
+    access: f32,
+) -> Deduction
+    ensures { λ r. ⌜ r ≡ compensationOf constants common reading access ⌝ }
 {
-    let gradient = calibration.temperature_gradient_coefficient;
+    let gradient = constants.temperature_gradient_coefficient;
     match gradient {
         Gradient::Coefficient(coefficient) => {
-            let offset = calibration.offset_reference_cp as f32;
+            let offset = constants.offset_reference_cp as f32;
             let v_ir = per_pixel_v_ir(
                 reading,
                 common,
                 offset,
-                calibration.k_v_cp,
-                calibration.k_ta_cp,
+                constants.k_v_cp,
+                constants.k_ta_cp,
+                access,
             );
             Deduction::Amount(coefficient * v_ir)
         }
@@ -185,38 +218,38 @@ pub fn t_ar(t_a: f32, t_r: f32, emissivity: f32) -> f32
     r - (r - a) / emissivity
 }
 
-pub fn sensitivity_correction_coefficient(calibration: Calibration, t_a: f32) -> f32
-    ensures { λ r. ⌜ r ≡ correctionOf calibration «t_a» ⌝ }
+pub fn sensitivity_correction_coefficient(constants: Constants, t_a: f32) -> f32
+    ensures { λ r. ⌜ r ≡ correctionOf constants «t_a» ⌝ }
 {
-    1.0 + calibration.k_s_ta * (t_a - 25.0)
+    1.0 + constants.k_s_ta * (t_a - 25.0)
 }
 
 // What the compensation pixel deducts from every pixel's sensitivity.
-pub fn alpha_deduction(calibration: Calibration) -> Deduction
-    ensures { λ r. ⌜ r ≡ alphaDeductionOf calibration ⌝ }
+pub fn alpha_deduction(constants: Constants) -> Deduction
+    ensures { λ r. ⌜ r ≡ alphaDeductionOf constants ⌝ }
 {
-    let gradient = calibration.temperature_gradient_coefficient;
+    let gradient = constants.temperature_gradient_coefficient;
     match gradient {
-        Gradient::Coefficient(coefficient) => Deduction::Amount(calibration.alpha_cp * coefficient),
+        Gradient::Coefficient(coefficient) => Deduction::Amount(constants.alpha_cp * coefficient),
         Gradient::Missing => Deduction::Nothing,
     }
 }
 
 // What all pixels share, for the K_sTo of the basic range.
 pub fn common_to_data(
-    calibration: Calibration,
-    emissivity: f32,
+    constants: Constants,
+    settings: Settings,
     t_a: f32,
-    reflected: Reflected,
     k_s_to: f32,
 ) -> CommonToData
-    ensures { λ r. ⌜ r ≡ commonToOf calibration emissivity «t_a» reflected «k_s_to» ⌝ }
+    ensures { λ r. ⌜ r ≡ commonToOf constants settings «t_a» «k_s_to» ⌝ }
 {
+    let reflected = settings.reflected;
     let t_r = reflected_temperature(reflected, t_a);
     CommonToData {
-        alpha_deduction: alpha_deduction(calibration),
-        correction: sensitivity_correction_coefficient(calibration, t_a),
-        t_ar: t_ar(t_a, t_r, emissivity),
+        alpha_deduction: alpha_deduction(constants),
+        correction: sensitivity_correction_coefficient(constants, t_a),
+        t_ar: t_ar(t_a, t_r, settings.emissivity),
         k_s_to,
         slope: 1.0 - k_s_to * 273.15,
     }
@@ -244,6 +277,13 @@ pub fn final_value(v_ir: f32, a: f32, root: f32, common: CommonToData) -> f32
 {
     let s = common.k_s_to * root;
     v_ir / (a * common.slope + s) + common.t_ar
+}
+
+// The final value by the numbers of a range, from a pixel's A, its infrared number and its basic temperature.
+pub fn ranged_value(range: Range, t_ar: f32, a: f32, v_ir: f32, t: f32) -> f32
+    ensures { λ r. ⌜ r ≡ rangedOf range «t_ar» a «v_ir» t ⌝ }
+{
+    v_ir / (a * range.coefficient * (1.0 + range.k_s_to * (t - range.corner))) + t_ar
 }
 
 // The temperature, from the root of the final value.

@@ -2,14 +2,16 @@
 // call and a label, the number that the label speaks of (0 for none), the refusal's number (0 for good) and its place, the bits of t_a
 // and how many pixels were lost (both 0 after a refusal), and then the destination: how many of its 200 entries have the bits that it
 // was filled with, and entries 0, 1, 190, 191 and 192.
-use calculations::Frame;
+use calculations::FilteredInput;
+use calculations::Input;
 use calibration::Calibration;
-use calibration::Gradient;
-use eeprom::Subpage;
+use camera::Gradient;
+use camera::Subpage;
 use filter::Steadied;
 use formulas::RamData;
 use formulas::Reflected;
-use formulas::Supply;
+use formulas::Settings;
+use frames::Frame;
 use libc::STDOUT_FILENO;
 use offsets::Offset;
 
@@ -114,13 +116,6 @@ pub fn room() -> RamData {
         v_dd_pixel: -13115,
         gain: 6391,
         compensation_pixel: -105,
-    }
-}
-
-fn supply() -> Supply {
-    Supply {
-        resolution_correction: 0.5,
-        v_dd_0: 3.3,
     }
 }
 
@@ -262,6 +257,31 @@ fn entries_of(table: u8, short: u8) -> usize {
     if table == short { 191 } else { 192 }
 }
 
+fn settings_of(ask: Ask) -> Settings {
+    Settings {
+        emissivity: ask.emissivity,
+        resolution_correction: 0.5,
+        v_dd_0: 3.3,
+        basic_range: ask.range,
+        reflected: reflected_of(ask),
+    }
+}
+
+fn input_of(ask: Ask, ram: RamData) -> Input {
+    Input {
+        settings: settings_of(ask),
+        ram,
+        subpage: subpage_of(ask.subpage),
+    }
+}
+
+fn filtered_of(ask: Ask, ram: RamData) -> FilteredInput {
+    FilteredInput {
+        input: input_of(ask, ram),
+        compensation: steadied_of(ask),
+    }
+}
+
 fn steadied_of(ask: Ask) -> Steadied {
     if ask.form == 1 {
         Steadied::NotYet
@@ -283,14 +303,10 @@ fn infrared_call<'a>(
     mask: &[u8],
     destination: &mut [u32],
 ) -> Frame {
-    let subpage = subpage_of(ask.subpage);
     if ask.form == 0 {
         return calculations::raw_pixels_to_ir_data(
             calibration,
-            ask.emissivity,
-            supply(),
-            ram,
-            subpage,
+            input_of(ask, ram),
             offsets0,
             offsets1,
             k_v,
@@ -302,11 +318,7 @@ fn infrared_call<'a>(
     }
     calculations::filtered_pixels_to_ir_data(
         calibration,
-        ask.emissivity,
-        supply(),
-        ram,
-        steadied_of(ask),
-        subpage,
+        filtered_of(ask, ram),
         offsets0,
         offsets1,
         k_v,
@@ -354,10 +366,8 @@ fn temperatures_of(
     let entries = util::least(ask.entries, destination.len());
     calculations::raw_ir_to_temperatures(
         calibration,
-        ask.emissivity,
+        settings_of(ask),
         ask.t_a,
-        ask.range,
-        reflected_of(ask),
         stored::reals(alpha, entries_of(3, ask.short)),
         stored::bytes(mask, 0, ask.mask_length),
         &mut destination[..entries],
@@ -378,17 +388,10 @@ fn pass_call<'a>(
     mask: &[u8],
     destination: &mut [u32],
 ) -> Frame {
-    let subpage = subpage_of(ask.subpage);
-    let reflected = reflected_of(ask);
     if ask.form == 0 {
         return calculations::raw_pixels_to_temperatures(
             calibration,
-            ask.emissivity,
-            supply(),
-            ram,
-            subpage,
-            ask.range,
-            reflected,
+            input_of(ask, ram),
             offsets0,
             offsets1,
             alpha,
@@ -401,13 +404,7 @@ fn pass_call<'a>(
     }
     calculations::filtered_pixels_to_temperatures(
         calibration,
-        ask.emissivity,
-        supply(),
-        ram,
-        steadied_of(ask),
-        subpage,
-        ask.range,
-        reflected,
+        filtered_of(ask, ram),
         offsets0,
         offsets1,
         alpha,

@@ -2,7 +2,7 @@
 // The expected lines in `stdout` were not taken from this program. `cards/expect_frames` writes them from document 01, with its own
 // rounding, its own formulas and its own rules for a frame.
 use calibration::Calibration;
-use calibration::Gradient;
+use camera::Gradient;
 use filter::Steadied;
 use formulas::RamData;
 use libc::STDOUT_FILENO;

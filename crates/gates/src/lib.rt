@@ -2,17 +2,14 @@
 ghost use mathlib.Core.Path.{_≡_};
 ghost use Rattle.refusal.specs.Order.{firstOf};
 ghost use Rattle.gates.specs.Gate.{badEmissivity, zeroDivisor, supplyOutside, lengthTests, rangeTests, readingTests, emissivityTests, infraredTests, temperatureTests, onePassTests};
-use calibration::Calibration;
+use formulas::Constants;
 use formulas::RamData;
-use map::PIXELS;
 use refusal::Refusal;
 use refusal::Verdict;
 
-// Two bytes to a pixel.
-pub const FRAME_BYTES: usize = 384;
-
-// How long what a frame is lent is: the shortest of its tables, its pixel bytes, its destination and its mask.
+// How many pixels a frame has, and how long what it is lent is: the shortest of its tables, its pixel bytes, its destination and its mask.
 pub struct Lengths {
+    pub size: usize,
     pub table: usize,
     pub pixels: usize,
     pub destination: usize,
@@ -30,48 +27,48 @@ fn emissivity_stops(emissivity: f32) -> bool
 }
 
 // Whether a divisor of the frame's own numbers is zero.
-fn divisor_stops(calibration: Calibration, ram: RamData) -> bool
-    ensures { λ r. ⌜ r ≡ zeroDivisor calibration ram ⌝ }
+fn divisor_stops(constants: Constants, ram: RamData) -> bool
+    ensures { λ r. ⌜ r ≡ zeroDivisor constants ram ⌝ }
 {
-    if calibration.k_v_dd as f32 == 0.0 {
+    if constants.k_v_dd as f32 == 0.0 {
         return true;
     }
     if ram.gain as f32 == 0.0 {
         return true;
     }
-    if calibration.k_t_ptat == 0.0 {
+    if constants.k_t_ptat == 0.0 {
         return true;
     }
-    let delta = formulas::delta_v(calibration, ram);
-    if formulas::ptat_correction(calibration, delta) == 0.0 {
+    let delta = formulas::delta_v(constants, ram);
+    if formulas::ptat_correction(constants, delta) == 0.0 {
         return true;
     }
-    formulas::ptat_denominator(calibration, ram) == 0.0
+    formulas::ptat_denominator(constants, ram) == 0.0
 }
 
 // Whether the supply reading is too far from its reference.
-fn supply_stops(calibration: Calibration, ram: RamData) -> bool
-    ensures { λ r. ⌜ r ≡ supplyOutside calibration ram ⌝ }
+fn supply_stops(constants: Constants, ram: RamData) -> bool
+    ensures { λ r. ⌜ r ≡ supplyOutside constants ram ⌝ }
 {
-    !util::fits_i16(util::difference(ram.v_dd_pixel, calibration.v_dd_25))
+    !util::fits_i16(util::difference(ram.v_dd_pixel, constants.v_dd_25))
 }
 
 // Refusals 2 and 10.
 fn length_gate(lengths: Lengths) -> Verdict
     ensures { λ r. ⌜ r ≡ firstOf (lengthTests lengths) ⌝ }
 {
-    if lengths.table < PIXELS {
+    if lengths.table < lengths.size {
         return Verdict::Refused(Refusal::ShortTable);
     }
-    if lengths.pixels < FRAME_BYTES {
+    if lengths.pixels / 2 < lengths.size {
         let length = lengths.pixels;
         return Verdict::Refused(Refusal::ShortFrame { length });
     }
-    if lengths.destination < PIXELS {
+    if lengths.destination < lengths.size {
         let length = lengths.destination;
         return Verdict::Refused(Refusal::ShortFrame { length });
     }
-    if lengths.mask < PIXELS {
+    if lengths.mask < lengths.size {
         let length = lengths.mask;
         return Verdict::Refused(Refusal::ShortFrame { length });
     }
@@ -79,23 +76,23 @@ fn length_gate(lengths: Lengths) -> Verdict
 }
 
 // Refusal 6.
-fn range_gate(basic_range: usize) -> Verdict
-    ensures { λ r. ⌜ r ≡ firstOf (rangeTests «basic_range») ⌝ }
+fn range_gate(ranges: usize, basic_range: usize) -> Verdict
+    ensures { λ r. ⌜ r ≡ firstOf (rangeTests ranges «basic_range») ⌝ }
 {
-    if 7 < basic_range {
+    if ranges <= basic_range {
         return Verdict::Refused(Refusal::BasicRange { range: basic_range });
     }
     Verdict::Pass
 }
 
 // Refusals 7 and 8, where pixels are taken.
-fn reading_gate(calibration: Calibration, emissivity: f32, ram: RamData) -> Verdict
-    ensures { λ r. ⌜ r ≡ firstOf (readingTests calibration emissivity ram) ⌝ }
+fn reading_gate(constants: Constants, emissivity: f32, ram: RamData) -> Verdict
+    ensures { λ r. ⌜ r ≡ firstOf (readingTests constants emissivity ram) ⌝ }
 {
-    if supply_stops(calibration, ram) {
+    if supply_stops(constants, ram) {
         return Verdict::Refused(Refusal::SupplyRange);
     }
-    if divisor_stops(calibration, ram) {
+    if divisor_stops(constants, ram) {
         return Verdict::Refused(Refusal::ZeroDivisor);
     }
     if emissivity_stops(emissivity) {
@@ -116,35 +113,41 @@ fn emissivity_gate(emissivity: f32) -> Verdict
 
 // What stops a frame of infrared.
 pub fn infrared_gate(
-    calibration: Calibration,
+    constants: Constants,
     emissivity: f32,
     ram: RamData,
     lengths: Lengths,
 ) -> Verdict
-    ensures { λ r. ⌜ r ≡ firstOf (infraredTests calibration emissivity ram lengths) ⌝ }
+    ensures { λ r. ⌜ r ≡ firstOf (infraredTests constants emissivity ram lengths) ⌝ }
 {
-    length_gate(lengths).then(reading_gate(calibration, emissivity, ram))
+    length_gate(lengths).then(reading_gate(constants, emissivity, ram))
 }
 
 // What stops a frame from infrared to temperature.
-pub fn temperature_gate(emissivity: f32, basic_range: usize, lengths: Lengths) -> Verdict
-    ensures { λ r. ⌜ r ≡ firstOf (temperatureTests emissivity «basic_range» lengths) ⌝ }
+pub fn temperature_gate(
+    emissivity: f32,
+    ranges: usize,
+    basic_range: usize,
+    lengths: Lengths,
+) -> Verdict
+    ensures { λ r. ⌜ r ≡ firstOf (temperatureTests emissivity ranges «basic_range» lengths) ⌝ }
 {
-    length_gate(lengths).then(range_gate(basic_range).then(emissivity_gate(emissivity)))
+    length_gate(lengths).then(range_gate(ranges, basic_range).then(emissivity_gate(emissivity)))
 }
 
 // What stops a frame in one pass.
 pub fn one_pass_gate(
-    calibration: Calibration,
+    constants: Constants,
     emissivity: f32,
     ram: RamData,
+    ranges: usize,
     basic_range: usize,
     lengths: Lengths,
 ) -> Verdict
-    ensures { λ r. ⌜ r ≡ firstOf (onePassTests calibration emissivity ram «basic_range» lengths) ⌝ }
+    ensures { λ r. ⌜ r ≡ firstOf (onePassTests constants emissivity ram ranges «basic_range» lengths) ⌝ }
 {
-    length_gate(lengths).then(range_gate(basic_range).then(reading_gate(
-        calibration,
+    length_gate(lengths).then(range_gate(ranges, basic_range).then(reading_gate(
+        constants,
         emissivity,
         ram,
     )))

@@ -1,6 +1,6 @@
 // What crate `load_runs` is made of: images that are made, loads of them, and the lines that tell of a load: a label, the refusal's number
 // (0 for good), its place and its value, and then what the kind of line says.
-use eeprom::Subpage;
+use camera::Subpage;
 use hamming::Encoded;
 use libc::STDOUT_FILENO;
 use offsets::Offset;
@@ -113,7 +113,7 @@ fn kept_real(table: &[f32; 200]) -> u64 {
 
 // The first `size` bytes of an image, into tables of which `short` has 191 entries (6: all have 200).
 pub fn watched(label: &[u8], image: &Image, size: usize, short: u8) {
-    watched_from(label, image, size, short, stored::BASIC_RANGE);
+    watched_from(label, image, size, short, map::BASIC_RANGE);
 }
 
 // The same, from a basic range.
@@ -167,7 +167,7 @@ pub fn with_offset(label: &[u8], image: &Image, entry: usize) {
     let mut k_ta = [77.0f32; 192];
     let got = eeprom::load(
         image,
-        stored::BASIC_RANGE,
+        map::BASIC_RANGE,
         &mut offsets0,
         &mut offsets1,
         &mut alpha,
@@ -190,7 +190,7 @@ pub fn with_numbers(label: &[u8], image: &Image, pixel: usize) {
     let mut k_ta = [77.0f32; 192];
     let got = eeprom::load(
         image,
-        stored::BASIC_RANGE,
+        map::BASIC_RANGE,
         &mut offsets0,
         &mut offsets1,
         &mut alpha,

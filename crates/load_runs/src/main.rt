@@ -2,7 +2,7 @@
 // stands in a line.
 // The expected lines in `stdout` were not taken from this program. `cards/expect` writes them from document 01, with its own chip code, its
 // own rounding and its own rules for a load.
-use eeprom::Subpage;
+use camera::Subpage;
 use load_case::Image;
 
 // ---- Lengths

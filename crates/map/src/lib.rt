@@ -10,6 +10,15 @@ pub const IMAGE_BYTES: usize = 1664;
 // A frame's pixels: as many entries has a table.
 pub const PIXELS: usize = 192;
 
+// Its columns and rows, the camera's temperature ranges, and its basic range, by the crate.
+pub const WIDTH: usize = 16;
+
+pub const HEIGHT: usize = 12;
+
+pub const RANGES: usize = 8;
+
+pub const BASIC_RANGE: usize = 2;
+
 // The data of a card's words.
 pub type Words = [u16; WORDS];
 

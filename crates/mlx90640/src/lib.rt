@@ -100,7 +100,7 @@ pub fn interleave_pattern(corrections: Corrections) -> [f32; 6]
 }
 
 // The six-entry pattern: three entries for an even row, three for an odd one.
-fn interleave_at(pixel: usize) -> usize
+pub fn interleave_at(pixel: usize) -> usize
     ensures { λ r. ⌜ r ≡ interleaveAt pixel ⌝ }
 {
     let half = pixel / WIDTH % 2 * 3;
@@ -112,7 +112,7 @@ fn interleave_at(pixel: usize) -> usize
 }
 
 // The four-entry chessboard: the row's parity, and twice the column's.
-fn chessboard_at(pixel: usize) -> usize
+pub fn chessboard_at(pixel: usize) -> usize
     ensures { λ r. ⌜ r ≡ chessboardAt pixel ⌝ }
 {
     pixel / WIDTH % 2 + pixel % WIDTH % 2 * 2

@@ -10,7 +10,6 @@ use Rattle.lists.specs.Count.{countBelow}
 use Rattle.floats.specs.Floats.{real}
 use Rattle.floats.specs.Constants.{pattern}
 use Rattle.util.specs.Words.{wordAt}
-use Rattle.map.specs.Map.{framePixels}
 use Rattle.util.specs.Fields.{signed}
 use Rattle.formulas.specs.declared.Pixel.{Pixel}
 use Rattle.formulas.specs.declared.Pixel.the-variants.{Temperature, Lost}
@@ -43,12 +42,12 @@ answerBits (Lost v) = pattern
 abbrev pub temperatureBits : (ℕ → Float) → (ℕ → Float) → ℕ → ℕ
 temperatureBits X v k = answerBits (answerOf (X k) (v k))
 
--- ---- over the 192 pixels
+-- ---- over the first n pixels
 
 -- the destination afterwards
-abbrev pub into : List ℕ → (ℕ → ℕ) → List ℕ → List ℕ
-into mask bits d = written (touched mask) bits framePixels d
+abbrev pub into : ℕ → List ℕ → (ℕ → ℕ) → List ℕ → List ℕ
+into n mask bits d = written (touched mask) bits n d
 
 -- how many pixels were written as the pattern
-abbrev pub lostOf : List ℕ → (ℕ → ℕ) → ℕ
-lostOf mask bits = countBelow (λ (k : ℕ). touched mask k && eqb (bits k) pattern) framePixels
+abbrev pub lostOf : ℕ → List ℕ → (ℕ → ℕ) → ℕ
+lostOf n mask bits = countBelow (λ (k : ℕ). touched mask k && eqb (bits k) pattern) n

@@ -6,10 +6,10 @@
 // Where the input ends a piece has the bytes that came, and a card that has begun is finished. Where reading or writing fails standard error has `failed`.
 ghost use Prim.Native.Nat.{_≤_};
 ghost use lib.ListN.{length};
-use board_lines::BASIC_RANGE;
 use console::put;
 use console::tab_number;
 use libc::STDIN_FILENO;
+use map::BASIC_RANGE;
 use map::IMAGE_BYTES;
 use map::PIXELS;
 use offsets::Offset;

@@ -1,6 +1,6 @@
 // Cards: the image's length at 2 of the head; the lengths of five tables at 0, 2, 4, 6 and 8 of the block and the image at 16.
 use calibration::Calibration;
-use calibration::Gradient;
+use camera::Gradient;
 use eeprom::Loaded;
 use offsets::Offset;
 use refusal::Verdict;
@@ -30,7 +30,7 @@ pub fn load(
     ];
     stored::load_parts(
         image,
-        stored::BASIC_RANGE,
+        map::BASIC_RANGE,
         lengths,
         offsets0,
         offsets1,

@@ -1,18 +1,30 @@
 // Frames: three calls on what a block says, beside the record and the tables that stand before it in the stream.
-use calculations::Frame;
+use calculations::Input;
 use calibration::Calibration;
-use eeprom::Subpage;
+use camera::Subpage;
 use formulas::RamData;
 use formulas::Reflected;
-use formulas::Supply;
+use formulas::Settings;
+use frames::Frame;
 use offsets::Offset;
 
 // ---- What a call takes
 
-fn supply_of(block: &[u8]) -> Supply {
-    Supply {
+fn settings_of(block: &[u8]) -> Settings {
+    Settings {
+        emissivity: stored::real_at(block, 0),
         resolution_correction: stored::real_at(block, 4),
         v_dd_0: stored::real_at(block, 8),
+        basic_range: range_of(block),
+        reflected: reflected_of(block),
+    }
+}
+
+fn input_of(block: &[u8]) -> Input {
+    Input {
+        settings: settings_of(block),
+        ram: ram_of(block),
+        subpage: subpage_of(block),
     }
 }
 
@@ -70,10 +82,7 @@ fn infrared<'a>(
     let entries = util::least(stored::size_at(block, 50), destination.len());
     calculations::raw_pixels_to_ir_data(
         record,
-        stored::real_at(block, 0),
-        supply_of(block),
-        ram_of(block),
-        subpage_of(block),
+        input_of(block),
         stored::wholes(offsets0, stored::size_at(block, 36)),
         stored::wholes(offsets1, stored::size_at(block, 38)),
         stored::reals(k_v, stored::size_at(block, 42)),
@@ -93,10 +102,8 @@ fn temperatures(
     let entries = util::least(stored::size_at(block, 50), destination.len());
     calculations::raw_ir_to_temperatures(
         record,
-        stored::real_at(block, 0),
+        settings_of(block),
         stored::real_at(block, 32),
-        range_of(block),
-        reflected_of(block),
         stored::reals(alpha, stored::size_at(block, 40)),
         mask_of(block),
         &mut destination[..entries],
@@ -113,20 +120,10 @@ fn one_pass<'a>(
     k_ta: &[f32],
     destination: &mut [u32],
 ) -> Frame {
-    let supply = supply_of(block);
-    let ram = ram_of(block);
-    let subpage = subpage_of(block);
-    let range = range_of(block);
-    let reflected = reflected_of(block);
     let entries = util::least(stored::size_at(block, 50), destination.len());
     calculations::raw_pixels_to_temperatures(
         record,
-        stored::real_at(block, 0),
-        supply,
-        ram,
-        subpage,
-        range,
-        reflected,
+        input_of(block),
         stored::wholes(offsets0, stored::size_at(block, 36)),
         stored::wholes(offsets1, stored::size_at(block, 38)),
         stored::reals(alpha, stored::size_at(block, 40)),

@@ -21,7 +21,7 @@ use Rattle.floats.specs.Constants.{freezing}
 use Rattle.floats.proofs.Power.{power-value}
 use Rattle.floats.proofs.Constants.{freezing-is}
 use Rattle.root.specs.Root.{field, magnitude, rootPattern, root, celsius}
-use Rattle.root.specs.Demand.{Near4}
+use Rattle.root.specs.Demand.{Near4, AsGood}
 use Rattle.root.proofs.Patterns.{Nearest, Between}
 use Rattle.root.proofs.Magnitude.{mag-at}
 use Rattle.root.proofs.Unique.{grows}
@@ -215,3 +215,9 @@ monotone x y hx hy fx ux fy uy l =
 
     small : (b : ℕ) → b < 0x51800000 → b < 0x7F800000
     small b l = omega arith
+
+pub as-good : AsGood
+as-good = record {
+  near = λ x h. demand x (h .is-f32) (h .from) (h .under);
+  grows = λ x y h i o. monotone x y (h .is-f32) (i .is-f32) (h .from) (h .under) (i .from) (i .under) o;
+}

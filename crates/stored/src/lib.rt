@@ -25,9 +25,6 @@ pub const ONE_PASS: u8 = 8;
 
 pub const STREAM: u8 = 9;
 
-// The camera's basic temperature range, by the crate.
-pub const BASIC_RANGE: usize = 2;
-
 // ---- Numbers, upper byte first. Past the end of a block every byte is 0
 
 pub fn byte_at(block: &[u8], at: usize) -> u8 {

@@ -1,20 +1,23 @@
 -- `calculations::raw_pixels_to_ir_data` meets its contract: the frame's own compensation reading is handed on. Assumes nothing.
 use borrow.Author.Needs.{needs}
 use lib.Ieee.{Float}
-use Rattle.calculations.specs.Frames.{IrCall, irCall}
-use Rattle.calculations.proofs.Calls.{infrareds-with}
+use Rattle.frames.specs.declared.Wanted.the-variants.{Infrared}
+use Rattle.frames.proofs.Calls.{makes-with}
+use Rattle.calculations.specs.Frames.{irCall, passCall}
 use Rattle.calculations.proofs.raw_pixels_to_ir_data.Statement.{statement}
 use Rattle.calculations.proofs.raw_pixels_to_ir_data.Tie as tie
 
-abbrev call : tie.Start → Float → IrCall
-call s x = let a = s .args in irCall (a .calibration) (a .emissivity) (a .supply) (a .ram) x (a .subpage) (a .offsets0 .now) (a .offsets1 .now) (a .k-v .now) (a .k-ta .now) (a .pixels .now) (a .mask .now)
-
 returns : tie.Need-returns
 returns c =
-    let p = c .before .before in
-    let o = p .before .before in
-    let s = o .before .before .before .before .before .before in
-    infrareds-with (call s) (o .own-reading .ensures) (p .pixels-to-ir-data .ensures)
+    let a = c .before .before .before .before .before .before .before .before .before .before .before .args in
+    makes-with Infrared (λ (x : Float). passCall (a .calibration) (irCall (a .calibration) (a .input) x (a .offsets0 .now) (a .offsets1 .now) (a .k-v .now) (a .k-ta .now) (a .pixels .now) (a .mask .now)) (a .k-ta .now))
+    (c .before .before .before .before .own-reading .ensures) (c .before .before .from-pixels .ensures)
 
 pub raw-pixels-to-ir-data-spec : {M : Type 1} → statement M
-raw-pixels-to-ir-data-spec = tie.close (tie.spec (λ c κs. search needs) (λ c κs. search needs) (λ c. search needs) returns)
+raw-pixels-to-ir-data-spec =
+    tie.close
+    (tie.spec
+    (λ c κs. search needs)
+    (λ c κs. search needs)
+    (λ c. search needs)
+    returns)

@@ -1,18 +1,22 @@
 -- `capi_frames::loamchalice_raw_pixels_to_temperatures` meets its contract: the inner call's promise, and its answer as C has it. Assumes nothing.
 use borrow.Author.Needs.{needs}
-use mathlib.Core.Path.{_≡_}
-use Rattle.border.specs.Record.{subpageOf}
+use Prim.Native.Nat.{ℕ}
+use mathlib.Core.List.{List}
+use Rattle.calibration.specs.declared.Calibration.{Calibration}
+use Rattle.frames.specs.Frames.{ownReading, Passes}
+use Rattle.calculations.specs.declared.Input.{Input}
+use Rattle.calculations.specs.Frames.{irCall, passCall}
+use Rattle.capi_frames.proofs.Handed.{handed}
 use Rattle.capi_frames.proofs.loamchalice_raw_pixels_to_temperatures.Statement.{statement}
 use Rattle.capi_frames.proofs.loamchalice_raw_pixels_to_temperatures.Tie as tie
 
 returns : tie.Need-returns
 returns c =
+    let a = c .before .before .before .before .before .before .before .before .before .before .before .before .before .args in
     let l = c .before .before .before .raw-pixels-to-temperatures in
-    let o = c .before .before .before .before .before .before in
-    let p : o .subpage-of .result ≡ subpageOf (o .before .before .before .before .before .before .before .before .before .args .subpage) = o .subpage-of .ensures in
     record {
       inner = l .result;
-      kept = rw (c .before .before .before .before .before .before .before .before .record-in .ensures, c .before .before .before .before .before .before .before .ram-in .ensures, p, c .before .before .before .before .before .reflected-in .ensures) at (l .ensures);
+      kept = handed (λ (k : Calibration) (i : Input) (d : List ℕ). Passes (passCall k (irCall k i (ownReading (i .ram)) (a .offsets0 .now) (a .offsets1 .now) (a .k-v .now) (a .k-ta .now) (a .pixels .now) (a .mask .now)) (a .alpha .now)) (a .destination .now) d (l .result)) _ (c .before .before .before .before .before .before .record-in .ensures) (c .before .before .before .before .before .input-in .ensures) (l .ensures);
       out = c .frame-out .ensures;
     }
 
@@ -20,8 +24,6 @@ pub loamchalice-raw-pixels-to-temperatures-spec : {M : Type 1} → statement M
 loamchalice-raw-pixels-to-temperatures-spec =
     tie.close
     (tie.spec
-    (λ c κs. search needs)
-    (λ c κs. search needs)
     (λ c κs. search needs)
     (λ c κs. search needs)
     (λ c κs. search needs)

@@ -11,7 +11,7 @@ use Rattle.formulas.proofs.compensation.Tie as tie
 returns : tie.Need-returns
 unfolding compensationOf
 returns c =
-    let o = c .before .before .before .before .before .before .args .calibration .«offset_reference_cp» in
+    let o = c .before .before .before .before .before .before .args .constants .«offset_reference_cp» in
     let e : toZ w16 (ofZ w16 o) ≡ o = toZ-ofZ {w = w16} (search needs) in
     rw (c .per-pixel-v-ir .ensures, c .before .before .before .before .gradient .given .1, e) refl
 

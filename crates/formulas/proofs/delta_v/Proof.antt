@@ -28,8 +28,8 @@ returns c =
     let d = c .before .before .before in
     let a = d .before .before .before .args in
     let p : toZ w16 (ofZ w16 (a .ram .«v_dd_pixel»)) ≡ a .ram .«v_dd_pixel» = toZ-ofZ {w = w16} (search needs) in
-    let v : toZ w16 (ofZ w16 (a .calibration .«v_dd_25»)) ≡ a .calibration .«v_dd_25» = toZ-ofZ {w = w16} (search needs) in
-    let k : toZ w16 (ofZ w16 (a .calibration .«k_v_dd»)) ≡ a .calibration .«k_v_dd» = toZ-ofZ {w = w16} (search needs) in
+    let v : toZ w16 (ofZ w16 (a .constants .«v_dd_25»)) ≡ a .constants .«v_dd_25» = toZ-ofZ {w = w16} (search needs) in
+    let k : toZ w16 (ofZ w16 (a .constants .«k_v_dd»)) ≡ a .constants .«k_v_dd» = toZ-ofZ {w = w16} (search needs) in
     rw (toZ-ofZ {w = w32} (record { sfits = d .difference .ok }), d .difference .ensures .0, p, v, k) refl
 
 pub delta-v-spec : {M : Type 1} → statement M

@@ -10,20 +10,20 @@ use Rattle.gates.specs.Gate.{zeroDivisor}
 use Rattle.gates.proofs.divisor_stops.Statement.{statement}
 use Rattle.gates.proofs.divisor_stops.Tie as tie
 
-k-v-dd : (c : tie.After-struct-told) → isZero (real (toZ w16 (ofZ w16 (c .before .before .args .calibration .«k_v_dd»)))) ≡ isZero (real (c .before .before .args .calibration .«k_v_dd»))
+k-v-dd : (c : tie.After-struct-told) → isZero (real (toZ w16 (ofZ w16 (c .before .before .args .constants .«k_v_dd»)))) ≡ isZero (real (c .before .before .args .constants .«k_v_dd»))
 k-v-dd c = search needs
 
 gain : (c : tie.After-struct-told2) → isZero (real (toZ w16 (ofZ w16 (c .before .before .before .before .before .args .ram .gain)))) ≡ isZero (real (c .before .before .before .before .before .args .ram .gain))
 gain c = search needs
 
-no-k-v-dd : (c : tie.Else1) → isZero (real (c .before .before .before .args .calibration .«k_v_dd»)) ≡ false
+no-k-v-dd : (c : tie.Else1) → isZero (real (c .before .before .before .args .constants .«k_v_dd»)) ≡ false
 no-k-v-dd c = sym (k-v-dd (c .before)) ∙ c .if1 .left
 
 no-gain : (c : tie.Else2) → isZero (real (c .before .before .before .before .before .before .args .ram .gain)) ≡ false
 no-gain c = _∙_ {c = false} (sym (gain (c .before))) (c .if2 .left)
 
-correction : (c : tie.After-ptat-correction) → isZero (c .ptat-correction .result) ≡ isZero (ptatCorrectionOf (c .before .before .before .before .before .before .before .before .before .before .args .calibration) (deltaOf (c .before .before .before .before .before .before .before .before .before .before .args .calibration) (c .before .before .before .before .before .before .before .before .before .before .args .ram)))
-correction c = ap isZero (c .ptat-correction .ensures ∙ ap (ptatCorrectionOf (c .before .before .before .before .before .before .before .before .before .before .args .calibration)) (c .before .delta-v .ensures))
+correction : (c : tie.After-ptat-correction) → isZero (c .ptat-correction .result) ≡ isZero (ptatCorrectionOf (c .before .before .before .before .before .before .before .before .before .before .args .constants) (deltaOf (c .before .before .before .before .before .before .before .before .before .before .args .constants) (c .before .before .before .before .before .before .before .before .before .before .args .ram)))
+correction c = ap isZero (c .ptat-correction .ensures ∙ ap (ptatCorrectionOf (c .before .before .before .before .before .before .before .before .before .before .args .constants)) (c .before .delta-v .ensures))
 
 returns : tie.Need-returns
 unfolding zeroDivisor

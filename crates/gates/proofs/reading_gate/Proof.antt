@@ -7,10 +7,10 @@ use Rattle.gates.specs.Gate.{supplyOutside, zeroDivisor, readingTests}
 use Rattle.gates.proofs.reading_gate.Statement.{statement}
 use Rattle.gates.proofs.reading_gate.Tie as tie
 
-no-supply : (c : tie.Else1) → let a = c .before .before .args in supplyOutside (a .calibration) (a .ram) ≡ false
+no-supply : (c : tie.Else1) → let a = c .before .before .args in supplyOutside (a .constants) (a .ram) ≡ false
 no-supply c = sym (c .before .supply-stops .ensures) ∙ c .if1 .left
 
-no-divisor : (c : tie.Else2) → let a = c .before .before .before .before .args in zeroDivisor (a .calibration) (a .ram) ≡ false
+no-divisor : (c : tie.Else2) → let a = c .before .before .before .before .args in zeroDivisor (a .constants) (a .ram) ≡ false
 no-divisor c = sym (c .before .divisor-stops .ensures) ∙ c .if2 .left
 
 returns : tie.Need-returns

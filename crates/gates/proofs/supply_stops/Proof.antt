@@ -13,7 +13,7 @@ unfolding supplyOutside
 returns c =
     let a = c .before .before .before .before .args in
     let p : toZ w16 (ofZ w16 (a .ram .«v_dd_pixel»)) ≡ a .ram .«v_dd_pixel» = toZ-ofZ {w = w16} (search needs) in
-    let v : toZ w16 (ofZ w16 (a .calibration .«v_dd_25»)) ≡ a .calibration .«v_dd_25» = toZ-ofZ {w = w16} (search needs) in
+    let v : toZ w16 (ofZ w16 (a .constants .«v_dd_25»)) ≡ a .constants .«v_dd_25» = toZ-ofZ {w = w16} (search needs) in
     rw (c .fits-i16 .ensures, toZ-ofZ {w = w32} (record { sfits = c .before .difference .ok }), c .before .difference .ensures .0, p, v) refl
 
 pub supply-stops-spec : {M : Type 1} → statement M

@@ -1,3 +1,0 @@
--- The coefficients by their steps: laws that callers cite. Between leads to the code.
-pub mod Steps
-mod Between

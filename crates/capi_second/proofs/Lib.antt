@@ -1,2 +1,0 @@
--- That there is one answer.
-pub mod Single
