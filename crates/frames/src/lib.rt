@@ -255,6 +255,7 @@ pub fn from_infrared(
         source: Source::Destination,
         goal: Goal::Temperature(common_to(constants, settings, t_a, k_s_to)),
     };
+    // Nothing is read of the lists that only pixels or the second pass need.
     let no_offsets = [0i32; 1];
     let no_corners = [0i16; 1];
     let lost = pixels::frame_pixels(

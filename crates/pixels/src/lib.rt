@@ -257,14 +257,14 @@ fn degrees_block(values: &[f32; SIDE], temperatures: &mut [f32])
     requires { ⌜ side ≤ length (now temperatures) ⌝ }
     ensures { λ r. ⌜ Each (is (celsiusAt (now (values .entry)))) nan (now (temperatures .exit)) side ⌝ }
 {
-    let mut roots = [0.0f32; SIDE];
-    roots::fourth_roots(values, &mut roots);
+    roots::fourth_roots(values, temperatures);
     for i in 0..SIDE {
-        temperatures[i] = formulas::degrees(roots[i]);
+        temperatures[i] = formulas::degrees(temperatures[i]);
     }
 }
 
-// The temperatures of the block from base on. Each pixel has two roots, one inside the other: in stages many pixels are under way at once.
+// The temperatures of the block from base on. Each pixel has two roots, one inside the other: in stages many pixels are under way at once. The list for
+// the temperatures has the inner roots in between.
 fn temperature_block(
     common: CommonToData,
     alpha: &[f32],
@@ -275,12 +275,10 @@ fn temperature_block(
     requires { ⌜ (base + side ≤ length (now alpha)) × (side ≤ length (now numbers)) × (side ≤ length (now temperatures)) ⌝ }
     ensures { λ r. ⌜ Each (is (λ (i : ℕ). celsius (liftedAt common (now (alpha .entry)) (v (now (numbers .entry)) i) (base + i)))) nan (now (temperatures .exit)) side ⌝ }
 {
-    let mut under = [0.0f32; SIDE];
-    let mut roots = [0.0f32; SIDE];
     let mut values = [0.0f32; SIDE];
-    under_roots(common, alpha, base, numbers, &mut under);
-    roots::fourth_roots(&under, &mut roots);
-    final_values(common, alpha, base, numbers, &roots, &mut values);
+    under_roots(common, alpha, base, numbers, &mut values);
+    roots::fourth_roots(&values, temperatures);
+    final_values(common, alpha, base, numbers, temperatures, &mut values);
     degrees_block(&values, temperatures);
 }
 
@@ -350,7 +348,7 @@ fn ranged_values(
     }
 }
 
-// The second pass's temperatures of the block from base on.
+// The second pass's temperatures of the block from base on. The list for them has the basic ones in between.
 fn ranged_block(
     common: CommonToData,
     ranges: u32,
@@ -366,11 +364,10 @@ fn ranged_block(
     requires { ⌜ (0 < ranges) × (ranges ≤ length (now corners)) × (ranges ≤ length (now «k_s_to»)) × (ranges ≤ length (now coefficients)) ⌝ }
     ensures { λ r. ⌜ Each (is (λ (i : ℕ). celsius (liftedRangedAt common ranges (table (now (alpha .entry)) (now (corners .entry)) (now («k_s_to» .entry)) (now (coefficients .entry))) (v (now (numbers .entry)) i) (base + i)))) nan (now (temperatures .exit)) side ⌝ }
 {
-    let mut basic = [0.0f32; SIDE];
     let mut found = [0u32; SIDE];
     let mut values = [0.0f32; SIDE];
-    temperature_block(common, alpha, base, numbers, &mut basic);
-    find_ranges(ranges, corners, &basic, &mut found);
+    temperature_block(common, alpha, base, numbers, temperatures);
+    find_ranges(ranges, corners, temperatures, &mut found);
     ranged_values(
         common,
         alpha,
@@ -379,7 +376,7 @@ fn ranged_block(
         coefficients,
         base,
         numbers,
-        &basic,
+        temperatures,
         &found,
         &mut values,
     );

@@ -14,7 +14,7 @@ find-ranges-requires c κs = (search needs, search needs, search needs, record {
 
 ranged-values-requires : tie.Need-ranged-values-requires
 ranged-values-requires c κs =
-    let p = c .before .before .before .before .before .before .before .before .before .before .before .before .before .before .before .pre .1 in (
+    let p = c .before .before .before .before .before .before .before .before .before .before .before .before .before .before .before .before .pre .1 in (
       (search needs, search needs, search needs, search needs),
       λ i h.
           let e = c .before .before .before .before .find-ranges .ensures .at i h in
@@ -25,19 +25,16 @@ returns : tie.Need-returns
 returns c = record {
   at = λ i h.
       c .before .before .degrees-block .ensures .at i h
-      ∙ ap celsius (c .before .before .before .before .before .before .ranged-values .ensures .at i h ∙ ranged _ (c .before .before .before .before .before .before .before .before .before .before .before .before .before .before .before .before .before .before .before .before .before .before .args .ranges) _ _ _ (c .before .before .before .before .before .before .before .before .before .before .before .before .before .before .before .temperature-block .ensures .at i h) (c .before .before .before .before .before .before .before .before .before .before .before .find-ranges .ensures .at i h));
+      ∙ ap celsius (c .before .before .before .before .before .before .ranged-values .ensures .at i h ∙ ranged _ (c .before .before .before .before .before .before .before .before .before .before .before .before .before .before .before .before .before .before .before .before .before .before .before .args .ranges) _ _ _ (c .before .before .before .before .before .before .before .before .before .before .before .before .before .before .before .before .temperature-block .ensures .at i h) (c .before .before .before .before .before .before .before .before .before .before .before .find-ranges .ensures .at i h));
 }
 
 pub ranged-block-spec : {M : Type 1} → statement M
 ranged-block-spec =
     tie.close
     (tie.spec
-    (λ c. search needs)
     (λ c κs. search needs)
     (λ c. search needs)
-    (λ c. search needs)
     find-ranges-requires
-    (λ c. search needs)
     (λ c. search needs)
     ranged-values-requires
     (λ c κs. search needs)
