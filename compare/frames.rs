@@ -440,8 +440,8 @@ fn ranged(tally: &mut Tally, n: &mut Numbers, label: &str, f: &Frame, before: &[
     judge(tally, &Judged { call: "second pass, filtered", ..j }, verdict, answer, &after, &said);
 }
 
-// What document.rs says of the second pass.
-fn by_ranges(tally: &mut Tally, f: &Frame, before: &[u32]) -> Said {
+/// What document.rs says of the second pass.
+pub fn by_ranges(tally: &mut Tally, f: &Frame, before: &[u32]) -> Said {
     let (t_a, v) = of_call(before, |destination| published::raw_pixels_to_ir_data(f, destination))?;
     let (_, basic) = of_call(before, |destination| rooted::raw_pixels_to_temperatures(f, destination))?;
     let mut wanted = floats(before);
@@ -457,8 +457,8 @@ fn by_ranges(tally: &mut Tally, f: &Frame, before: &[u32]) -> Said {
     Some((t_a, wanted))
 }
 
-// A whole average is another reading, which the crate can judge; not yet is the frame's own.
-fn steadied(f: &Frame, average: Option<i16>) -> Frame {
+/// A whole average is another reading, which the crate can judge; not yet is the frame's own.
+pub fn steadied(f: &Frame, average: Option<i16>) -> Frame {
     let mut steadied = f.clone();
     steadied.ram.compensation_pixel = average.unwrap_or(f.ram.compensation_pixel);
     steadied

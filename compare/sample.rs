@@ -1,13 +1,9 @@
-//! Writes what crates/replay replays: cases with the answers of the crate mlx9064x 0.2.1.
+//! Writes what crates/replay replays: a stream of cases (docs/CASES.md) with the answers of the crate mlx9064x 0.2.1.
 //!   sample FOLDER
-//! Chip words, records, tables and infrared numbers are those of the crate as published, temperatures those of the rooted one. What
-//! stops a call is worked out by document.rs, and must fit what the crate does there; so are a card's offsets where the crate's average is not
-//! the papers' or its 16 bits don't hold them, and such a card says so. The library is not linked: of library.rs only the types
-//! are used here.
-//! The stream is cases one after another, every number big-endian, a not-a-number of an answer as 0x7FC00000, a pixel that is left as its
-//! bits before. A case is a head of 16 bytes (kind, what the crate did, what is given, answer, value, number, place), and then: for a card its
-//! lengths, its image and, if it loads, record and tables; for a frame its numbers and lengths, three answers, pixels, mask, and the
-//! destinations before and after. The top of crates/replay/src/main.rt says what stands where.
+//! Chip words, records, tables and infrared numbers are those of the crate as published, temperatures those of the rooted one. By document.rs are
+//! what stops a call, which must fit what the crate does there; what was mended; range coefficient 0; a card's offsets where the crate's average is
+//! not the papers' or its 16 bits don't hold them ("papers judge" in the case's name); and the second pass ("by document"). Where the crate doesn't
+//! answer, the name says what it does. The library is not linked: of library.rs only the types are used here.
 #[allow(dead_code)]
 mod cards;
 #[allow(dead_code)]
@@ -22,14 +18,16 @@ mod tally;
 
 include!("subjects.rs");
 
-use cards::{by_crate, image_of, offset_card, record_of, sound, tables_of, Oracle};
+use cards::{by_crate, image_of, offset_card, record_of, sound, tables_of};
 use document::{Code, Data, Verdict};
-use frames::{of_call, Said};
-use library::{Frame, Record, Tables, HEATS};
+use frames::{by_ranges, of_call, steadied, Said};
+use library::{Frame, Record, Tables, BASIC, HEATS};
 use mlx9064x::error::LibraryError;
 use mlx9064x::mlx90641::hamming::{add_checksum, validate_checksum};
+use mlx9064x::CalibrationData;
 use numbers::Numbers;
 use std::collections::BTreeMap;
+use tally::Tally;
 
 const SEED: u64 = 90641;
 const WORDS_OF_EACH: usize = 120;
@@ -41,87 +39,131 @@ const IMAGE: usize = 1680;
 const ENTRIES: usize = 200;
 const PIXELS: usize = 400;
 
-const NOT_A_NUMBER: u32 = 0x7FC0_0000;
+type Kind = (u16, &'static str);
+const ENCODE: Kind = (1, "encode");
+const CHECK: Kind = (2, "check");
+const LOAD: Kind = (3, "load");
+const CAMERA: Kind = (12, "camera");
+const FRAME: Kind = (13, "frame");
+const INFRARED: Kind = (14, "infrared");
+const ONE_PASS: Kind = (15, "one pass");
+const SECOND_PASS: Kind = (16, "second pass");
+const FILTERED_INFRARED: Kind = (17, "filtered infrared");
+const FILTERED_ONE_PASS: Kind = (18, "filtered one pass");
+const FILTERED_SECOND_PASS: Kind = (19, "filtered second pass");
+const TEMPERATURES: Kind = (20, "temperatures");
 
-// What the crate did; stored for the reader, and not compared.
-const ANSWERED: u8 = 0;
-const ERROR: u8 = 1;
-const PANIC: u8 = 2;
-const NOT_ASKED: u8 = 3;
-// Verdict and offsets are the papers', for the crate's average is another or its 16 bits don't hold an offset; the rest is the crate's from the
-// card with plain offsets.
-const PAPERS: u8 = 4;
+/// The stream so far, how many answers it has of each kind, and the record and tables that the next frame would lean on.
+struct Stream {
+    bytes: Vec<u8>,
+    answers: BTreeMap<Kind, u64>,
+    camera: Vec<u32>,
+    averages: Numbers,
+    code: Code,
+    tally: Tally,
+}
+
+impl Stream {
+    fn case(&mut self, kind: Kind, name: &str, input: &[u8], answer: &[u8]) {
+        assert!(name.is_ascii() && name.len() <= 256, "{name}");
+        self.bytes.extend(u16s([kind.0, name.len() as u16]));
+        self.bytes.extend(u32s([input.len() as u32, answer.len() as u32]));
+        for part in [name.as_bytes(), input, answer] {
+            self.bytes.extend(part);
+        }
+        if !answer.is_empty() {
+            *self.answers.entry(kind).or_default() += 1;
+        }
+    }
+
+    // By the name up to its last comma.
+    fn count(&mut self, what: &str, name: &str) {
+        self.tally.count(&format!("{what}, {}", name.rsplit_once(", ").map_or(name, |(class, _)| class)));
+    }
+}
+
+// ---- Numbers, as the stream has them
 
 fn bits(x: f32) -> u32 {
     if x.is_nan() {
-        NOT_A_NUMBER
+        0x7FC0_0000
     } else {
         x.to_bits()
     }
 }
 
-/// The stream so far, and what the frames that follow lean on.
-struct Stream {
-    bytes: Vec<u8>,
-    record: Vec<u8>,
-    tables: Vec<u8>,
-    words: u64,
-    cards: u64,
-    frames: u64,
-    counts: BTreeMap<String, u64>,
+fn u16s(list: impl IntoIterator<Item = u16>) -> Vec<u8> {
+    list.into_iter().flat_map(u16::to_be_bytes).collect()
 }
 
-impl Stream {
-    fn count(&mut self, class: String) {
-        *self.counts.entry(class).or_default() += 1;
-    }
+fn u32s(list: impl IntoIterator<Item = u32>) -> Vec<u8> {
+    list.into_iter().flat_map(u32::to_be_bytes).collect()
+}
 
-    fn half(&mut self, x: u16) {
-        self.bytes.extend(x.to_be_bytes());
-    }
+fn told(verdict: Verdict) -> Vec<u8> {
+    [verdict.0, verdict.1, verdict.2].into_iter().flat_map(u64::to_be_bytes).collect()
+}
 
-    fn word(&mut self, x: u32) {
-        self.bytes.extend(x.to_be_bytes());
-    }
+fn record_numbers(r: &Record) -> Vec<u32> {
+    let whole = |x: i16| i32::from(x) as u32;
+    let gradient = if r.has_gradient == 0 { [0, 0] } else { [1, bits(r.gradient)] };
+    let parts: [&[u32]; 9] = [
+        &[whole(r.k_v_dd), whole(r.v_dd_25), r.resolution.into()],
+        &[r.k_v_ptat, r.k_t_ptat, r.v_ptat_25, r.alpha_ptat, r.gain, r.k_s_ta].map(bits),
+        &r.corner_temperatures.map(whole),
+        &r.k_s_to.map(bits),
+        &[r.emissivity, r.alpha_cp].map(bits),
+        &[whole(r.offset_reference_cp)],
+        &[r.k_v_cp, r.k_ta_cp].map(bits),
+        &gradient,
+        &r.range_coefficients.map(bits),
+    ];
+    parts.concat()
+}
 
-    fn padded(&mut self, bytes: &[u8], length: usize) {
-        assert!(bytes.len() <= length);
-        self.bytes.extend(bytes);
-        self.bytes.extend(std::iter::repeat(0).take(length - bytes.len()));
-    }
+// No record, and tables with nothing loaded.
+fn blank() -> Vec<u32> {
+    [vec![0; 40], vec![77; 2 * ENTRIES], vec![bits(77.0); 3 * ENTRIES]].concat()
+}
 
-    fn head(&mut self, kind: u8, did: u8, given: u16, answer: u16, verdict: Verdict) {
-        self.bytes.extend([kind, did]);
-        self.half(given);
-        self.half(answer);
-        self.half(verdict.2.try_into().expect("a value of two bytes"));
-        self.word(verdict.0 as u32);
-        self.word(verdict.1.try_into().expect("a place of four bytes"));
+// Where a table ends, the entries behind stay: no call is lent them.
+fn put(camera: &mut [u32], r: &Record, t: &Tables) {
+    camera[..40].copy_from_slice(&record_numbers(r));
+    let offsets = t.offsets.iter().map(|table| table.iter().map(|x| *x as u32).collect::<Vec<u32>>());
+    let others = [&t.alpha, &t.k_v, &t.k_ta].into_iter().map(|table| table.iter().map(|x| bits(*x)).collect());
+    for (k, table) in offsets.chain(others).enumerate() {
+        camera[40 + ENTRIES * k..][..table.len()].copy_from_slice(&table);
     }
+}
+
+// What lies past the part that is lent must stay too.
+fn destination_bytes(lent: &[u32]) -> Vec<u8> {
+    u32s(lent.iter().copied().chain((lent.len()..ENTRIES).map(|k| 0x7FB0_0000 + k as u32)))
 }
 
 // ---- Words
 
 fn encode(s: &mut Stream, data: u16) {
     let (verdict, did, word) = match add_checksum(data) {
-        Ok(word) => ((0, 0, 0), ANSWERED, word),
-        Err(LibraryError::Other(_)) => ((9, u64::from(data), 0), ERROR, 0),
+        Ok(word) => ((0, 0, 0), "", word),
+        Err(LibraryError::Other(_)) => ((9, data.into(), 0), ", crate error", 0),
         Err(other) => panic!("{other:?}"),
     };
-    s.head(1, did, data, word, verdict);
-    s.words += 1;
-    s.count(format!("encode, verdict {}", verdict.0));
+    s.case(ENCODE, &format!("data {data}{did}"), &u16s([data]), &[told(verdict), u16s([word])].concat());
+    s.tally.count(&format!("encode, verdict {}", verdict.0));
 }
 
-fn check(s: &mut Stream, word: u16) {
+fn check(s: &mut Stream, name: &str, word: u16) {
     let (verdict, did, data) = match validate_checksum(word) {
-        Ok(data) => ((0, 0, 0), ANSWERED, data),
-        Err(LibraryError::Checksum(bits)) => ((3, 0, u64::from(bits)), ERROR, 0),
+        Ok(data) => ((0, 0, 0), "", data),
+        Err(LibraryError::Checksum(bits)) => ((3, 0, bits.into()), ", crate error", 0),
         Err(other) => panic!("{other:?}"),
     };
-    s.head(2, did, word, data, verdict);
-    s.words += 1;
-    s.count(format!("check, verdict {}", verdict.0));
+    let bit = s.code.flipped(word);
+    assert!(verdict.0 == 0 || bit.is_none(), "word 0x{word:04X}: damaged, and bit {bit:?} mends it");
+    let mended = vec![u8::from(bit.is_some()), bit.unwrap_or(0)];
+    s.case(CHECK, &format!("{name}0x{word:04X}{did}"), &u16s([word]), &[told(verdict), u16s([data]), mended].concat());
+    s.tally.count(&format!("check, verdict {}", verdict.0));
 }
 
 fn flipped(n: &mut Numbers, word: u16, flips: usize) -> u16 {
@@ -134,80 +176,47 @@ fn words(s: &mut Stream) {
         encode(s, data);
     }
     for word in [0x9800, 0x8000, 0x0003, 0x0007, 0x0000, 0xFFFF, 0x7FFF, 0xFC00, 0x9801, 0x3003] {
-        check(s, word);
+        check(s, "", word);
     }
     let mut n = Numbers::new(SEED);
     for flips in 0..4 {
         for _ in 0..WORDS_OF_EACH {
             let word = document::encode(n.below(2048) as u16);
-            check(s, flipped(&mut n, word, flips));
+            check(s, &format!("{flips} flips, "), flipped(&mut n, word, flips));
         }
     }
-}
-
-// ---- Records and tables, as the stream has them
-
-fn record_bytes(r: &Record) -> Vec<u8> {
-    let singles = [
-        r.k_v_ptat, r.k_t_ptat, r.v_ptat_25, r.alpha_ptat, r.gain, r.k_s_ta, r.emissivity, r.alpha_cp, r.k_v_cp, r.k_ta_cp, r.gradient,
-    ];
-    let mut bytes: Vec<u8> = singles.iter().chain(&r.k_s_to).flat_map(|x| bits(*x).to_be_bytes()).collect();
-    bytes.extend(r.corner_temperatures.iter().flat_map(|x| x.to_be_bytes()));
-    bytes.extend([r.k_v_dd, r.v_dd_25, r.offset_reference_cp].iter().flat_map(|x| x.to_be_bytes()));
-    bytes.extend([r.resolution, r.has_gradient]);
-    assert_eq!(bytes.len(), 100);
-    bytes
-}
-
-// The first 192 entries of each; a short table is filled up with 0, which no call reads.
-fn table_bytes(t: &Tables) -> Vec<u8> {
-    let mut bytes = Vec::new();
-    for table in &t.offsets {
-        bytes.extend((0..192).flat_map(|i| table.get(i).copied().unwrap_or(0i32).to_be_bytes()));
-    }
-    for table in [&t.alpha, &t.k_v, &t.k_ta] {
-        bytes.extend((0..192).flat_map(|i| bits(table.get(i).copied().unwrap_or(0.0)).to_be_bytes()));
-    }
-    assert_eq!(bytes.len(), 3840);
-    bytes
 }
 
 // ---- Cards
 
 const FULL: [usize; 5] = [192; 5];
 
-fn card(s: &mut Stream, code: &Code, class: &str, image: &[u8], lengths: [usize; 5]) {
+// The crate's range coefficients must be document.rs's but for range 0, where it takes a reciprocal.
+fn coefficients(code: &Code, image: &[u8], of_crate: &[f32]) -> [f32; 8] {
+    let coefficients = document::coefficients(&code.data(image).expect("a card that loads"), BASIC);
+    assert!(of_crate[1..].iter().zip(&coefficients[1..]).all(|(a, b)| bits(*a) == bits(*b)), "{of_crate:?}, document {coefficients:?}");
+    coefficients
+}
+
+fn card(s: &mut Stream, name: &str, image: &[u8], lengths: [usize; 5]) {
     let image = &image[..image.len().min(IMAGE)];
-    let verdict = code.load(image, library::BASIC, lengths.into_iter().min().unwrap_or(0));
-    let asked = cards::ask(code, image, verdict);
-    let says = asked.did;
-    assert!(asked.as_expected, "{class}: document {verdict:?}, {says}");
-    let did = match &asked.answer {
-        _ if asked.oracle == Oracle::Papers => PAPERS,
-        Some(Ok(_)) => ANSWERED,
-        Some(Err(_)) => ERROR,
-        None if verdict.0 == 2 => NOT_ASKED,
-        None => PANIC,
-    };
-    s.head(if verdict.0 == 0 { 3 } else { 4 }, did, image.len() as u16, 0, verdict);
-    for length in lengths {
-        s.half(length as u16);
+    let verdict = s.code.load(image, BASIC, lengths.into_iter().min().unwrap_or(0));
+    let asked = cards::ask(&s.code, image, verdict);
+    let did = asked.did;
+    assert!(asked.as_expected, "{name}: document {verdict:?}, {did}");
+    let mut mending = (0, 832);
+    s.camera = blank();
+    if verdict.0 == 0 {
+        let (Some(Ok(c)), Some(offsets)) = (&asked.answer, asked.offsets) else { panic!("{name}: loads, and the crate has no record") };
+        let record = Record { range_coefficients: coefficients(&s.code, image, c.alpha_correction()), ..record_of(c) };
+        put(&mut s.camera, &record, &Tables { offsets, ..tables_of(c) });
+        mending = s.code.mending(image);
     }
-    s.padded(&[], 6);
-    s.padded(image, IMAGE);
-    s.record.clear();
-    s.tables.clear();
-    if let (0, Some(Ok(c)), Some(offsets)) = (verdict.0, &asked.answer, &asked.offsets) {
-        let mut tables = tables_of(c);
-        tables.offsets = offsets.clone();
-        s.record = record_bytes(&record_of(c));
-        s.tables = table_bytes(&tables);
-        s.bytes.extend(&s.record);
-        s.bytes.extend(&s.tables);
-    }
-    s.cards += 1;
-    s.count(format!("cards, {class}"));
-    s.count(format!("cards, verdict {}, {says}", verdict.0));
+    let input = [(BASIC as u64).to_be_bytes().to_vec(), u16s(lengths.map(|x| x as u16)), image.to_vec()].concat();
+    let answer = [told(verdict), u32s([mending.0 as u32, mending.1 as u32]), u32s(s.camera.clone())].concat();
+    s.case(LOAD, &if did == "crate good" { name.to_string() } else { format!("{name}, {did}") }, &input, &answer);
+    s.count("cards", name);
+    s.tally.count(&format!("cards, verdict {}, {did}", verdict.0));
 }
 
 fn with(data: &[(usize, u16)]) -> Data {
@@ -218,44 +227,44 @@ fn with(data: &[(usize, u16)]) -> Data {
     card
 }
 
-fn lengths_of_cards(s: &mut Stream, code: &Code) {
+fn lengths_of_cards(s: &mut Stream) {
     let good = image_of(&sound());
     for length in [0, 1, 33, 1663, 1664, 1665, 1680] {
         let mut image = good.clone();
         image.resize(length, 0xFF);
-        card(s, code, "lengths", &image, FULL);
+        card(s, &format!("lengths, {length}"), &image, FULL);
     }
     for k in 0..5 {
         for short in [191, 0] {
             let mut lengths = FULL;
             lengths[k] = short;
-            card(s, code, "short tables", &good, lengths);
+            card(s, &format!("short tables, table {k} with {short}"), &good, lengths);
         }
     }
-    card(s, code, "long tables", &good, [200; 5]);
-    card(s, code, "long tables", &good, [193, 192, 200, 192, 199]);
+    card(s, "long tables, all of 200", &good, [200; 5]);
+    card(s, "long tables, of several lengths", &good, [193, 192, 200, 192, 199]);
 }
 
-fn wiped(s: &mut Stream, code: &Code) {
-    card(s, code, "wiped to 0x00", &[0; 1664], FULL);
-    card(s, code, "wiped to 0x00", &[0; 1665], [200; 5]);
-    card(s, code, "wiped to 0xFF", &[0xFF; 1664], FULL);
-    card(s, code, "wiped to 0xFF", &[0xFF; 1663], FULL);
+fn wiped(s: &mut Stream) {
+    card(s, "wiped to 0x00, 1664 bytes", &[0; 1664], FULL);
+    card(s, "wiped to 0x00, 1665 bytes", &[0; 1665], [200; 5]);
+    card(s, "wiped to 0xFF, 1664 bytes", &[0xFF; 1664], FULL);
+    card(s, "wiped to 0xFF, 1663 bytes", &[0xFF; 1663], FULL);
 }
 
-fn flips(s: &mut Stream, code: &Code) {
+fn flips(s: &mut Stream) {
     for word in [0, 15, 16, 17, 18, 19, 20, 21, 63, 64, 255, 256, 447, 448, 639, 640, 831] {
         for flips in [0x0100u16, 0x8001, 0x0007] {
             let mut image = image_of(&sound());
             image[2 * word] ^= (flips >> 8) as u8;
             image[2 * word + 1] ^= flips as u8;
-            card(s, code, &format!("one word, {} flips", flips.count_ones()), &image, FULL);
+            card(s, &format!("one word, {} flips, word {word}", flips.count_ones()), &image, FULL);
         }
     }
 }
 
 // Raw × 2^scale and its sum with the average at the ends of i16, and the scales themselves.
-fn offsets(s: &mut Stream, code: &Code) {
+fn offsets(s: &mut Stream) {
     let edges = [
         (14, 0, 1, 64), (14, 0, -2, 255), (14, 0, 2, 640), (14, 0, -3, 831), (14, -1, 2, 64), (14, -1, -2, 831), (14, 1023, 1, 640),
         (13, 0, 3, 64), (13, 0, 4, 64), (13, 0, -4, 255), (13, -1, -4, 640), (13, 1023, -4, 831), (5, 31, 1023, 64), (5, 32, 1023, 64),
@@ -265,29 +274,30 @@ fn offsets(s: &mut Stream, code: &Code) {
         (5, 2047, 1023, 64), (5, 2047, -1024, 831), (0, 32767, 1, 640), (0, 32767, -1, 640), (0, -32768, -1, 255), (0, -32768, 1, 255),
     ];
     for (scale, average, raw, place) in edges {
-        card(s, code, "offset scales and sums", &image_of(&offset_card(scale, average, raw, place)), FULL);
+        let name = format!("offset scales and sums, scale {scale} average {average} raw {raw} at word {place}");
+        card(s, &name, &image_of(&offset_card(scale, average, raw, place)), FULL);
     }
 }
 
 // Every other scale of a card, at its ends and where a power leaves f32.
-fn scales(s: &mut Stream, code: &Code) {
+fn scales(s: &mut Stream) {
     for word in [0, 1, 126, 127, 128, 129, 149, 150, 2047] {
-        card(s, code, "alpha CP and K_sTo scales", &image_of(&with(&[(46, word), (52, word)])), FULL);
+        card(s, &format!("alpha CP and K_sTo scales, {word}"), &image_of(&with(&[(46, word), (52, word)])), FULL);
     }
     for word in [0, 31, 32, 1023, 1024, 2016, 2047] {
         let all = [22, 24, 25, 26, 27, 49, 50, 51].map(|k| (k, word));
-        card(s, code, "scale words", &image_of(&with(&all)), FULL);
+        card(s, &format!("scale words, {word}"), &image_of(&with(&all)), FULL);
     }
     for word in [0, 31, 32, 1023, 1024, 2047] {
         let all = [17, 18, 36, 37, 40, 41, 47, 48].map(|k| (k, word));
         let mut data = with(&all);
         data[16] = 0;
-        card(s, code, "combined words", &image_of(&data), FULL);
+        card(s, &format!("combined words, {word}"), &image_of(&data), FULL);
     }
 }
 
 // Two faults in one card: the lower number is told.
-fn pairs(s: &mut Stream, code: &Code) {
+fn pairs(s: &mut Stream) {
     for a in 1..5 {
         for b in a..5 {
             let both = [a, b];
@@ -302,49 +312,43 @@ fn pairs(s: &mut Stream, code: &Code) {
             if both.contains(&1) {
                 image.truncate(1663);
             }
-            card(s, code, "faults in pairs", &image, if both.contains(&2) { [192, 192, 192, 192, 191] } else { FULL });
+            let lengths = if both.contains(&2) { [192, 192, 192, 192, 191] } else { FULL };
+            card(s, &format!("faults in pairs, {a} and {b}"), &image, lengths);
         }
     }
 }
 
-fn made_card(s: &mut Stream, code: &Code, k: u64) {
+fn made_card(s: &mut Stream, k: u64) {
     let mut n = Numbers::new(SEED * 1000 + k);
     let (class, image) = cards::made(&mut n);
-    card(s, code, &format!("made, {class}"), &image, FULL);
+    card(s, &format!("made, {class}, {k}"), &image, FULL);
 }
 
 // ---- Frames
 
-// What a call must leave: its answer, and the destination's 200 entries.
-struct Told {
-    did: u8,
-    verdict: Verdict,
-    t_a: u32,
-    lost: u32,
-    after: Vec<u32>,
-}
-
-fn told(s: &mut Stream, call: &str, f: &Frame, verdict: Verdict, before: &[u32], said: Said) -> Told {
-    let did = if said.is_some() { ANSWERED } else { PANIC };
-    s.count(format!("{call}, verdict {}, {}", verdict.0, if did == PANIC { "crate panics" } else { "crate goes on" }));
-    let mut told = Told { did, verdict, t_a: 0, lost: 0, after: before.to_vec() };
-    if verdict.0 != 0 {
-        assert!(!matches!(verdict.0, 6 | 7) || did == PANIC, "{call}: refusal {verdict:?}, the crate goes on");
-        return told;
-    }
-    let (t_a, pixels) = said.expect("the crate goes on where there is no refusal");
-    told.t_a = bits(t_a);
-    for (i, pixel) in pixels.iter().enumerate() {
-        if i < 192 && f.mask[i] != 0 {
-            told.after[i] = bits(*pixel);
-            told.lost += u32::from(pixel.is_nan());
-            s.count(format!("{call}, pixels {}", kind_of(*pixel)));
-        } else {
-            s.count(format!("{call}, pixels left as they were"));
-            assert_eq!(pixel.to_bits(), before[i], "{call}: the crate leaves pixel {i}");
+// A call on a frame: its case, from its verdict and from what the crate said. Where it isn't refused, t_a and the destination are handed back.
+fn call(s: &mut Stream, kind: Kind, name: &str, input: &[u8], f: &Frame, verdict: Verdict, before: &[u32], said: Said) -> Option<(u32, Vec<u32>)> {
+    let did = if said.is_some() { "crate goes on" } else { "crate panics" };
+    s.tally.count(&format!("{}, verdict {}, {did}", kind.1, verdict.0));
+    assert!(!matches!(verdict.0, 6 | 7) || said.is_none(), "{name}: refusal {verdict:?}, the crate goes on");
+    let name = if said.is_some() { name.to_string() } else { format!("{name}, {did}") };
+    let (mut t_a, mut lost, mut after) = (0, 0, before.to_vec());
+    if verdict.0 == 0 {
+        let (ambient, pixels) = said.expect("the crate goes on where there is no refusal");
+        t_a = bits(ambient);
+        for (i, pixel) in pixels.iter().enumerate() {
+            if i < 192 && f.mask[i] != 0 {
+                after[i] = bits(*pixel);
+                lost += u32::from(pixel.is_nan());
+                s.tally.count(&format!("{}, pixels {}", kind.1, kind_of(*pixel)));
+            } else {
+                s.tally.count(&format!("{}, pixels left as they were", kind.1));
+                assert_eq!(pixel.to_bits(), before[i], "{name}: the crate leaves pixel {i}");
+            }
         }
     }
-    told
+    s.case(kind, &name, input, &[told(verdict), u32s([t_a, lost]), destination_bytes(&after)].concat());
+    (verdict.0 == 0).then_some((t_a, after))
 }
 
 fn kind_of(pixel: f32) -> &'static str {
@@ -357,90 +361,87 @@ fn kind_of(pixel: f32) -> &'static str {
     }
 }
 
-fn put_destination(s: &mut Stream, lent: &[u32]) {
-    // What lies past the part that is lent must stay too.
-    let rest = (lent.len()..ENTRIES).map(|k| 0x7FB0_0000 + k as u32);
-    for bits in lent.iter().copied().chain(rest) {
-        s.word(bits);
-    }
-}
-
-// The record and the tables of a frame, unless they stand there already.
-fn lean(s: &mut Stream, f: &Frame) {
-    let record = record_bytes(&f.record);
-    if record != s.record {
-        s.head(5, NOT_ASKED, 0, 0, (0, 0, 0));
-        s.bytes.extend(&record);
-        s.record = record;
-    }
-    let tables = table_bytes(&f.tables);
-    if tables != s.tables {
-        s.head(6, NOT_ASKED, 0, 0, (0, 0, 0));
-        s.bytes.extend(&tables);
-        s.tables = tables;
-    }
+fn frame_bytes(f: &Frame, before: &[u32]) -> Vec<u8> {
+    let (given, reflected) = f.reflected.map_or((0, HEATS[f.heat]), |given| (1, given));
+    let (t, r) = (&f.tables, &f.ram);
+    let padded = |bytes: &[u8], length: usize| [bytes, &vec![0; length - bytes.len()]].concat();
+    let lent = [t.offsets[0].len(), t.offsets[1].len(), t.alpha.len(), t.k_v.len(), t.k_ta.len(), f.pixels.len(), f.mask.len(), before.len()];
+    let parts = [
+        u32s([f.emissivity, f.resolution_correction, f.v_dd_0, reflected].map(f32::to_bits)),
+        (f.range as u64).to_be_bytes().to_vec(),
+        u16s([r.t_a_v_be, r.t_a_ptat, r.v_dd_pixel, r.gain, r.compensation_pixel].map(|x| x as u16)),
+        vec![f.subpage, given],
+        u16s(lent.map(|x| x as u16)),
+        padded(&f.pixels, PIXELS),
+        padded(&f.mask, ENTRIES),
+        destination_bytes(before),
+    ];
+    parts.concat()
 }
 
 // The second call starts from the destination and the t_a given, else from the infrared numbers of this frame or from whatever stands in the destination.
-fn frame(s: &mut Stream, class: &str, mut f: Frame, mut before: Vec<u32>, given: Option<f32>, n: &mut Numbers) {
+fn frame(s: &mut Stream, name: &str, mut f: Frame, mut before: Vec<u32>, given: Option<f32>, n: &mut Numbers) {
     before.truncate(ENTRIES);
     f.pixels.truncate(PIXELS);
     f.mask.truncate(ENTRIES);
-    let said = of_call(&before, |destination| published::raw_pixels_to_ir_data(&f, destination));
-    let infrared = told(s, "infrared", &f, document::infrared(&f, before.len()), &before, said);
+    let mut camera = s.camera.clone();
+    put(&mut camera, &f.record, &f.tables);
+    if camera != s.camera {
+        s.case(CAMERA, name, &u32s(camera.clone()), &[]);
+        s.camera = camera;
+    }
+    s.case(FRAME, name, &frame_bytes(&f, &before), &[]);
+    s.count("frames", name);
 
-    let (from, t_a) = match given {
-        Some(t_a) => (before.clone(), t_a),
-        None if infrared.verdict.0 == 0 && !n.one_in(3) => (infrared.after.clone(), f32::from_bits(infrared.t_a)),
-        None => (before.clone(), if n.one_in(2) { n.real(-40.0, 90.0) } else { n.wild() }),
+    let said = of_call(&before, |destination| published::raw_pixels_to_ir_data(&f, destination));
+    let infrared = call(s, INFRARED, name, &[], &f, document::infrared(&f, before.len()), &before, said);
+
+    let (from, t_a) = match (given, infrared) {
+        (Some(t_a), _) => (before.clone(), t_a),
+        (None, Some((t_a, after))) if !n.one_in(3) => (after, f32::from_bits(t_a)),
+        _ => (before.clone(), if n.one_in(2) { n.real(-40.0, 90.0) } else { n.wild() }),
     };
+    let mut input = u32s([t_a.to_bits()]);
+    if from != before {
+        input.extend(destination_bytes(&from));
+    }
     let said = of_call(&from, |destination| rooted::raw_ir_to_temperatures(&f, t_a, destination));
-    let temperatures = told(s, "temperatures", &f, document::temperature(&f, from.len()), &from, said);
+    call(s, TEMPERATURES, name, &input, &f, document::temperature(&f, from.len()), &from, said);
 
     let said = of_call(&before, |destination| rooted::raw_pixels_to_temperatures(&f, destination));
-    let pass = told(s, "one pass", &f, document::one_pass(&f, before.len()), &before, said);
+    call(s, ONE_PASS, name, &[], &f, document::one_pass(&f, before.len()), &before, said);
 
-    lean(s, &f);
-    s.head(7, ANSWERED, 0, 0, (0, 0, 0));
-    let (given, reflected) = f.reflected.map_or((0, HEATS[f.heat]), |given| (1, given));
-    for x in [f.emissivity, f.resolution_correction, f.v_dd_0] {
-        s.word(x.to_bits());
+    // Of every third frame that the second pass takes, and of every twelfth of each refusal.
+    let number = document::ranged(&f, before.len()).0;
+    let class = format!("frames, verdict {number} of a second pass");
+    s.tally.count(&class);
+    if s.tally.counts[&class] % if number == 0 { 3 } else { 12 } == 1 {
+        calls_of_our_own(s, name, &f, &before);
     }
-    for x in [f.ram.t_a_v_be, f.ram.t_a_ptat, f.ram.v_dd_pixel, f.ram.gain, f.ram.compensation_pixel] {
-        s.half(x as u16);
-    }
-    s.bytes.extend([f.subpage, given]);
-    s.word(f.range.try_into().expect("a range of four bytes"));
-    s.word(reflected.to_bits());
-    s.word(t_a.to_bits());
-    let t = &f.tables;
-    for length in [t.offsets[0].len(), t.offsets[1].len(), t.alpha.len(), t.k_v.len(), t.k_ta.len()] {
-        s.half(length as u16);
-    }
-    for length in [f.pixels.len(), f.mask.len(), before.len()] {
-        s.half(length as u16);
-    }
-    s.bytes.extend([0, infrared.did, temperatures.did, pass.did]);
-    for told in [&infrared, &temperatures, &pass] {
-        for x in [told.verdict.0, told.verdict.1, told.verdict.2] {
-            s.word(x as u32);
-        }
-        s.word(told.t_a);
-        s.word(told.lost);
-    }
-    s.padded(&[], 4);
-    s.padded(&f.pixels, PIXELS);
-    s.padded(&f.mask, ENTRIES);
-    for list in [&before, &infrared.after, &from, &temperatures.after, &pass.after] {
-        put_destination(s, list);
-    }
-    s.frames += 1;
-    s.count(format!("frames, {class}"));
 }
 
-// A frame of a room, on a card.
-fn room(n: &mut Numbers, image: &[u8]) -> Frame {
-    let (record, tables) = by_crate(image);
+// What the crate has not. A whole average of a filter is another reading of the compensation pixel to it; the second pass is document.rs's.
+fn calls_of_our_own(s: &mut Stream, name: &str, f: &Frame, before: &[u32]) {
+    let average = (!s.averages.one_in(4)).then(|| s.averages.word());
+    let input = [vec![u8::from(average.is_some())], u32s([f32::from(average.unwrap_or(0)).to_bits()])].concat();
+    let filtered = average.map_or(format!("{name}, no average"), |x| format!("{name}, average {x}"));
+    let steady = steadied(f, average);
+    let length = before.len();
+
+    let said = by_ranges(&mut s.tally, f, before);
+    call(s, SECOND_PASS, &format!("{name}, by document"), &[], f, document::ranged(f, length), before, said);
+    let said = of_call(before, |destination| published::raw_pixels_to_ir_data(&steady, destination));
+    call(s, FILTERED_INFRARED, &filtered, &input, f, document::infrared(f, length), before, said);
+    let said = of_call(before, |destination| rooted::raw_pixels_to_temperatures(&steady, destination));
+    call(s, FILTERED_ONE_PASS, &filtered, &input, f, document::one_pass(f, length), before, said);
+    let said = by_ranges(&mut s.tally, &steady, before);
+    call(s, FILTERED_SECOND_PASS, &format!("{filtered}, by document"), &input, f, document::ranged(f, length), before, said);
+}
+
+// A frame of a room, on a card as it loads.
+fn room(s: &Stream, n: &mut Numbers, image: &[u8]) -> Frame {
+    let (mut record, tables) = by_crate(image);
+    record.range_coefficients = coefficients(&s.code, image, &record.range_coefficients);
     Frame {
         image: image.to_vec(),
         record,
@@ -459,76 +460,77 @@ fn room(n: &mut Numbers, image: &[u8]) -> Frame {
 }
 
 // One thing changed in a frame of a room.
-fn corner(s: &mut Stream, n: &mut Numbers, class: &str, change: impl FnOnce(&mut Frame)) {
-    let mut f = room(n, &image_of(&sound()));
+fn corner(s: &mut Stream, n: &mut Numbers, name: &str, change: impl FnOnce(&mut Frame)) {
+    let mut f = room(s, n, &image_of(&sound()));
     change(&mut f);
     let before = frames::destination(n, "realistic");
-    frame(s, class, f, before, None, n);
+    frame(s, name, f, before, None, n);
 }
 
 fn caller_corners(s: &mut Stream, n: &mut Numbers) {
     for subpage in [0, 1, 2, 255] {
-        corner(s, n, "subpages", |f| f.subpage = subpage);
+        corner(s, n, &format!("subpages, {subpage}"), |f| f.subpage = subpage);
     }
     for range in [0, 1, 2, 3, 4, 5, 6, 7, 8, 9, 0xFFFF_FFFF] {
-        corner(s, n, "ranges", |f| f.range = range);
+        corner(s, n, &format!("ranges, {range}"), |f| f.range = range);
     }
     let (infinity, least) = (f32::INFINITY, f32::from_bits(1));
     for emissivity in [1.0, 0.5, 1.5, -1.0, -0.5, infinity, -infinity, 0.0, -0.0, f32::NAN, f32::from_bits(0xFFC0_0001), least, 1e38] {
-        corner(s, n, "emissivities", |f| f.emissivity = emissivity);
+        corner(s, n, &format!("emissivities, {emissivity:?} 0x{:08X}", emissivity.to_bits()), |f| f.emissivity = emissivity);
     }
     for (heat, reflected) in [(0, None), (1, None), (2, None), (3, None), (4, None), (0, Some(-40.0)), (0, Some(f32::NAN)), (0, Some(-infinity)), (0, Some(-0.0))] {
-        corner(s, n, "reflected temperatures", |f| (f.heat, f.reflected, f.emissivity) = (heat, reflected, 0.9));
+        let what = reflected.map_or(format!("self-heating {:?}", HEATS[heat]), |given: f32| format!("given {given:?}"));
+        corner(s, n, &format!("reflected temperatures, {what}"), |f| (f.heat, f.reflected, f.emissivity) = (heat, reflected, 0.9));
     }
     for gradient in [None, Some(0.0), Some(-0.0), Some(1.0), Some(-4.0), Some(f32::NAN)] {
-        corner(s, n, "gradients", |f| {
+        corner(s, n, &format!("gradients, {gradient:?}"), |f| {
             f.record.has_gradient = u8::from(gradient.is_some());
             f.record.gradient = gradient.unwrap_or(0.0);
         });
     }
     for (v_dd_25, v_dd_pixel) in [(32736, -32), (32736, -33), (-32, 32735), (-32, 32736), (-32768, 0), (-32768, -1)] {
-        corner(s, n, "supply readings", |f| (f.record.v_dd_25, f.ram.v_dd_pixel) = (v_dd_25, v_dd_pixel));
+        corner(s, n, &format!("supply readings, V_DD25 {v_dd_25} pixel {v_dd_pixel}"), |f| (f.record.v_dd_25, f.ram.v_dd_pixel) = (v_dd_25, v_dd_pixel));
     }
 }
 
 fn lengths_of_frames(s: &mut Stream, n: &mut Numbers) {
     for length in [0, 1, 200, 383, 385, 400] {
-        corner(s, n, "pixel bytes", |f| f.pixels.resize(length, 0x55));
+        corner(s, n, &format!("pixel bytes, {length}"), |f| f.pixels.resize(length, 0x55));
     }
     for length in [0, 1, 191, 193, 200] {
-        corner(s, n, "mask lengths", |f| f.mask.resize(length, 1));
+        corner(s, n, &format!("mask lengths, {length}"), |f| f.mask.resize(length, 1));
     }
     for (first, rest) in [(0, 1), (2, 0), (0, 255), (0, 0), (0x80, 0x80)] {
-        corner(s, n, "mask bytes", |f| {
+        corner(s, n, &format!("mask bytes, first {first} others {rest}"), |f| {
             f.mask = vec![rest; 192];
             f.mask[0] = first;
         });
     }
     for length in [0, 1, 2, 191, 193, 200] {
-        let f = room(n, &image_of(&sound()));
+        let f = room(s, n, &image_of(&sound()));
         let mut before = frames::destination(n, "realistic");
         before.resize(length, 0x7FA0_1234);
-        frame(s, "destination lengths", f, before, None, n);
+        frame(s, &format!("destination lengths, {length}"), f, before, None, n);
     }
-    for (k, short) in [(0, 191), (1, 191), (2, 191), (3, 191), (4, 191), (0, 0), (2, 0), (5, 0)] {
-        corner(s, n, "short tables", |f| {
+    for (k, short) in [(0, 191), (1, 191), (2, 191), (3, 191), (4, 191), (0, 0), (2, 0)] {
+        corner(s, n, &format!("short tables, table {k} with {short}"), |f| {
             let t = &mut f.tables;
             match k {
                 0 => t.offsets[0].truncate(short),
                 1 => t.offsets[1].truncate(short),
                 2 => t.alpha.truncate(short),
                 3 => t.k_v.truncate(short),
-                4 => t.k_ta.truncate(short),
-                _ => f.range = 8,
+                _ => t.k_ta.truncate(short),
             }
         });
     }
+    corner(s, n, "short tables, none but range 8", |f| f.range = 8);
 }
 
 // Entries past 192 are not read.
 fn long_tables(s: &mut Stream, n: &mut Numbers) {
     for (subpage, length) in [(0, 200), (1, 200), (1, 193)] {
-        corner(s, n, "long tables", |f| {
+        corner(s, n, &format!("long tables, {length} subpage {subpage}"), |f| {
             f.subpage = subpage;
             let t = &mut f.tables;
             t.offsets.iter_mut().for_each(|table| table.resize(length, 77));
@@ -552,7 +554,8 @@ fn divisors(s: &mut Stream, n: &mut Numbers) {
         (0, usual.1, usual.2, 0, usual.4),
     ];
     for (k_v_dd, k_t_ptat, k_v_ptat, gain, v_be) in changes {
-        corner(s, n, "divisors", |f| {
+        let name = format!("divisors, K_VDD {k_v_dd} K_TPTAT {k_t_ptat:?} K_VPTAT {k_v_ptat:?} gain {gain} V_BE {v_be}");
+        corner(s, n, &name, |f| {
             let r = &mut f.record;
             (r.k_v_dd, r.v_dd_25, r.k_t_ptat, r.k_v_ptat, r.alpha_ptat) = (k_v_dd, -13056, k_t_ptat, k_v_ptat, 9.0);
             (f.ram.v_dd_pixel, f.ram.gain, f.ram.t_a_ptat, f.ram.t_a_v_be) = (-9952, gain, 1711, v_be);
@@ -564,12 +567,12 @@ fn divisors(s: &mut Stream, n: &mut Numbers) {
 fn readings(s: &mut Stream, n: &mut Numbers) {
     let pixels: Vec<u8> = (0..192).flat_map(|i| [0i16, 1, -1, 32767, -32768, -512][i % 6].to_be_bytes()).collect();
     for (gain, gradient) in [(6391, 1), (-6391, 1), (6391, 0), (-6391, 0), (1, 1), (-32768, 0)] {
-        corner(s, n, "readings", |f| {
+        corner(s, n, &format!("readings, gain {gain} gradient {gradient}"), |f| {
             (f.pixels, f.ram.gain, f.record.has_gradient, f.emissivity) = (pixels.clone(), gain, gradient, 1.0);
         });
     }
     for gain in [6391, -6391] {
-        corner(s, n, "readings, offsets 0", |f| {
+        corner(s, n, &format!("readings with offsets 0, gain {gain}"), |f| {
             (f.pixels, f.ram.gain, f.record.has_gradient, f.tables.offsets[0]) = (pixels.clone(), gain, 0, vec![0; 192]);
         });
     }
@@ -578,18 +581,18 @@ fn readings(s: &mut Stream, n: &mut Numbers) {
 // Where X is the infrared number: alpha 1, K_sTo 0, and both temperatures -273.15. From 2^32, 2^36, and what lies beside them.
 fn known_roots(s: &mut Stream, n: &mut Numbers) {
     for emissivity in [1.0, 0.5] {
-        let mut f = room(n, &[0; 1664]);
+        let mut f = room(s, n, &[0; 1664]);
         f.tables.alpha = vec![1.0; 192];
         (f.record.has_gradient, f.emissivity, f.reflected) = (0, emissivity, Some(-273.15));
         let ends = [0x4F7F_FFFFu32, 0x4F80_0000, 0x4F80_0001, 0x517F_FFFF, 0x5180_0000, 0, 0x8000_0000, 0xBF80_0000, 0x7F80_0000, 1];
         let before = (0..192).map(|i| if i < ends.len() { ends[i] } else { 0x4F80_0000 + 0x0002_7A3D * i as u32 }).collect();
-        frame(s, "known roots", f, before, Some(-273.15), n);
+        frame(s, &format!("known roots, emissivity {emissivity:?}"), f, before, Some(-273.15), n);
     }
 }
 
 // The first root is of -0: A^3 × v and A^4 × t_ar vanish, both from below. Its +0 leaves a temperature.
 fn root_of_minus_zero(s: &mut Stream, n: &mut Numbers) {
-    let mut f = room(n, &[0; 1664]);
+    let mut f = room(s, n, &[0; 1664]);
     f.tables.alpha = vec![-1e-20; 192];
     f.record.k_s_to[f.range] = 1.0;
     (f.record.has_gradient, f.emissivity, f.reflected) = (0, 0.5, Some(200.0));
@@ -602,31 +605,31 @@ fn made_frame(s: &mut Stream, k: u64) {
     let mut n = Numbers::new(SEED * 1_000_000 + k);
     let (class, f) = frames::made(&mut n);
     let before = frames::destination(&mut n, class);
-    frame(s, &format!("made, {class}"), f, before, None, &mut n);
+    frame(s, &format!("made, {class}, {k}"), f, before, None, &mut n);
 }
 
-// A frame on a card that was just loaded, as the stream has it.
-fn on_card(s: &mut Stream, code: &Code, n: &mut Numbers, class: &str, data: &Data, gain: i16) {
+// Frames on a card that was just loaded, as the stream has it.
+fn on_card(s: &mut Stream, n: &mut Numbers, name: &str, data: &Data, gain: i16) {
     let image = image_of(data);
-    card(s, code, class, &image, FULL);
+    card(s, &format!("for frames, {name}"), &image, FULL);
     for subpage in [0, 1] {
-        let mut f = room(n, &image);
+        let mut f = room(s, n, &image);
         f.subpage = subpage;
         f.ram.gain = gain;
         let before = frames::destination(n, "realistic");
-        frame(s, &format!("on the card before: {class}"), f, before, None, n);
+        frame(s, &format!("on the card before, {name} subpage {subpage}"), f, before, None, n);
     }
 }
 
-fn on_cards(s: &mut Stream, code: &Code, n: &mut Numbers) {
-    on_card(s, code, n, "all zero", &[0; 832], 6391);
-    on_card(s, code, n, "sound", &sound(), 6391);
-    on_card(s, code, n, "sound, gain below 0", &sound(), -6391);
-    on_card(s, code, n, "alpha at its largest", &with(&[(28, 2047), (46, 0), (52, 0)]), 6391);
-    on_card(s, code, n, "K at its largest", &with(&[(22, 2047), (24, 2047)]), 6391);
-    for _ in 0..8 {
+fn on_cards(s: &mut Stream, n: &mut Numbers) {
+    on_card(s, n, "all zero", &[0; 832], 6391);
+    on_card(s, n, "sound", &sound(), 6391);
+    on_card(s, n, "sound and gain below 0", &sound(), -6391);
+    on_card(s, n, "alpha at its largest", &with(&[(28, 2047), (46, 0), (52, 0)]), 6391);
+    on_card(s, n, "K at its largest", &with(&[(22, 2047), (24, 2047)]), 6391);
+    for k in 0..8 {
         let data = cards::realistic(n);
-        on_card(s, code, n, "realistic", &data, 6391);
+        on_card(s, n, &format!("realistic {k}"), &data, 6391);
     }
 }
 
@@ -638,21 +641,20 @@ fn main() {
             shown(info);
         }
     }));
-    let code = Code::new();
-    let mut s =
-        Stream { bytes: Vec::new(), record: Vec::new(), tables: Vec::new(), words: 0, cards: 0, frames: 0, counts: BTreeMap::new() };
+    let (code, averages, tally) = (Code::new(), Numbers::new(SEED + 2), Tally::new());
+    let mut s = Stream { bytes: Vec::new(), answers: BTreeMap::new(), camera: blank(), averages, code, tally };
     words(&mut s);
-    lengths_of_cards(&mut s, &code);
-    wiped(&mut s, &code);
-    flips(&mut s, &code);
-    offsets(&mut s, &code);
-    scales(&mut s, &code);
-    pairs(&mut s, &code);
+    lengths_of_cards(&mut s);
+    wiped(&mut s);
+    flips(&mut s);
+    offsets(&mut s);
+    scales(&mut s);
+    pairs(&mut s);
     for k in 0..CARDS_MADE {
-        made_card(&mut s, &code, k);
+        made_card(&mut s, k);
     }
     let mut n = Numbers::new(SEED + 1);
-    on_cards(&mut s, &code, &mut n);
+    on_cards(&mut s, &mut n);
     caller_corners(&mut s, &mut n);
     lengths_of_frames(&mut s, &mut n);
     long_tables(&mut s, &mut n);
@@ -663,14 +665,12 @@ fn main() {
     for k in 0..FRAMES_MADE {
         made_frame(&mut s, k);
     }
-    let lines = format!(
-        "words\t{0}\tagree\t{0}\ncards\t{1}\tagree\t{1}\nframes\t{2}\tagree\t{2}\nfirst disagreement\tnone\n",
-        s.words, s.cards, s.frames
-    );
+    let mut lines: String = s.answers.iter().map(|((_, kind), n)| format!("{kind}\t{n}\tagree\t{n}\n")).collect();
+    lines += "first disagreement\tnone\n";
     std::fs::write(format!("{folder}/stdin"), &s.bytes).expect("stdin written");
     std::fs::write(format!("{folder}/stdout"), &lines).expect("stdout written");
-    for (class, count) in &s.counts {
+    for (class, count) in &s.tally.counts {
         println!("{count:>8}  {class}");
     }
-    println!("{} words, {} cards, {} frames, {} bytes", s.words, s.cards, s.frames, s.bytes.len());
+    println!("{lines}{} bytes", s.bytes.len());
 }

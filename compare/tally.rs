@@ -6,7 +6,7 @@ use std::panic::{catch_unwind, AssertUnwindSafe};
 const SHOWN: u64 = 20;
 
 pub struct Tally {
-    counts: BTreeMap<String, u64>,
+    pub counts: BTreeMap<String, u64>,
     pub disagreements: u64,
     pub notes: Vec<String>,
 }

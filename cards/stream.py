@@ -1,0 +1,145 @@
+"""Streams of cases, as docs/CASES.md has them: to write one, and to read one. An f32 is its bits here, and never a Python float."""
+import collections
+import struct
+
+NAMES = (
+    "encode", "check", "load", "row", "subpage", "read words", "write", "scrub", "burn", "pieces", "filter", "camera", "frame",
+    "infrared", "one pass", "second pass", "filtered infrared", "filtered one pass", "filtered second pass", "temperatures",
+    "MLX90640 word", "MLX90640 split", "MLX90640 pixel")
+KINDS = dict(enumerate(NAMES, 1))
+ENCODE, CHECK, LOAD, ROW, SUBPAGE, READ_WORDS, WRITE, SCRUB, BURN, PIECES, FILTER, CAMERA, FRAME = range(1, 14)
+INFRARED, ONE_PASS, SECOND_PASS, FILTERED_INFRARED, FILTERED_ONE_PASS, FILTERED_SECOND_PASS, TEMPERATURES = range(14, 21)
+BIGGER_WORD, BIGGER_SPLIT, BIGGER_PIXEL = range(21, 24)
+ON_A_FRAME = range(INFRARED, TEMPERATURES + 1)
+HEAD = ">HHII"
+
+# What an entry has before, and a table of numbers
+KEPT = 77
+KEPT_REAL = 0x429A0000
+NAN = 0x7FC00000
+ENTRIES = 200
+
+
+# ---- Numbers, the upper byte first
+
+def packed(letter, numbers):
+    return struct.pack(">%d%s" % (len(numbers), letter), *numbers)
+
+
+def u8(*numbers):
+    return packed("B", numbers)
+
+
+def u16(*numbers):
+    return packed("H", numbers)
+
+
+def u32(*numbers):
+    return packed("I", numbers)
+
+
+def u64(*numbers):
+    return packed("Q", numbers)
+
+
+def i16(*numbers):
+    return packed("h", numbers)
+
+
+def i32(*numbers):
+    return packed("i", numbers)
+
+
+# ---- Parts that come again and again
+
+def told(refusal):
+    return u64(*refusal)
+
+
+def record(r):
+    """A record is a dict: whole numbers, bits, lists of eight, and None where there is no gradient."""
+    first = i32(r["k_v_dd"], r["v_dd_25"]) + u32(r["resolution"])
+    first += u32(r["k_v_ptat"], r["k_t_ptat"], r["v_ptat_25"], r["alpha_ptat"], r["gain"], r["k_s_ta"])
+    first += i32(*r["corners"]) + u32(*r["k_s_to"]) + u32(r["emissivity"], r["alpha_cp"]) + i32(r["offset_cp"])
+    gradient = (0, 0) if r["gradient"] is None else (1, r["gradient"])
+    whole = first + u32(r["k_v_cp"], r["k_ta_cp"], *gradient, *r["coefficients"])
+    assert len(whole) == 160
+    return whole
+
+
+def tables(lists):
+    """Five lists: whole numbers in the first two, bits in the others. What is missing of 200 entries is as before."""
+    forms = [(i32, KEPT)] * 2 + [(u32, KEPT_REAL)] * 3
+    whole = b"".join(write(*entries, *[kept] * (ENTRIES - len(entries))) for entries, (write, kept) in zip(lists, forms))
+    assert len(whole) == 4000
+    return whole
+
+
+def loaded(load):
+    """Of what chip.load says."""
+    return told(load.told) + u32(load.mended, load.last) + record(load.record)
+
+
+# ---- Writing
+
+class Stream:
+    """Cases one after another. One that has been is not written again; nor is a camera or a frame that stands."""
+
+    def __init__(self):
+        self.cases = []
+        self.counts = collections.Counter()
+        self.names = set()
+        self.written = set()
+        self.repeated = collections.Counter()
+        self.camera = self.frame = None
+
+    def put(self, kind, name, given, answer):
+        assert name.isascii() and len(name) <= 256 and len(given) <= 65536 and len(answer) <= 65536
+        self.cases.append(struct.pack(HEAD, kind, len(name), len(given), len(answer)) + name.encode() + given + answer)
+
+    def case(self, kind, name, given, answer):
+        stands = (self.camera, self.frame) if kind in ON_A_FRAME else ()
+        if (kind, given, *stands) in self.written:
+            self.repeated[kind] += 1
+            return
+        assert (kind, name) not in self.names, (KINDS[kind], name)
+        self.written.add((kind, given, *stands))
+        self.names.add((kind, name))
+        self.counts[kind] += 1
+        self.put(kind, name, given, answer)
+        if kind == LOAD:
+            self.camera, self.frame = answer[32:], None
+
+    def stand(self, name, camera, frame):
+        """The camera and the frame of the calls that follow."""
+        if camera != self.camera:
+            self.put(CAMERA, name, camera, b"")
+            self.camera, self.frame = camera, None
+        if frame != self.frame:
+            self.put(FRAME, name, frame, b"")
+            self.frame = frame
+
+    def bytes(self):
+        return b"".join(self.cases)
+
+    def lines(self):
+        """What a program writes of a stream where every case agrees."""
+        kinds = ["%s\t%d\tagree\t%d\n" % (KINDS[kind], count, count) for kind, count in sorted(self.counts.items())]
+        return "".join(kinds) + "first disagreement\tnone\n"
+
+
+# ---- Reading
+
+def cases(stream):
+    """Number, kind, name, input and answer of each."""
+    number, at = 0, 0
+    while at < len(stream):
+        kind, *lengths = struct.unpack_from(HEAD, stream, at)
+        at += struct.calcsize(HEAD)
+        parts = []
+        for length in lengths:
+            parts.append(stream[at:at + length])
+            assert len(parts[-1]) == length, "the stream ends within a case"
+            at += length
+        number += 1
+        yield number, kind, parts[0].decode("ascii"), parts[1], parts[2]

@@ -1,0 +1,164 @@
+// Cases of frames: each makes the call that its kind says, on a camera and a frame, and says how far the answer agrees.
+// docs/CASES.md says what stands where.
+mod given;
+
+use calculations::FilteredInput;
+use calibration::Calibration;
+use frames::Frame;
+use offsets::Offset;
+use refusal::Verdict;
+
+// ---- A frame's answer: told, t_a, lost pixels and the whole destination
+
+fn same_done(answer: &[u8], verdict: Verdict, t_a: u32, lost: usize) -> usize {
+    let mut at = stream::same_verdict(answer, 0, verdict);
+    at = stream::same_word(answer, at, t_a);
+    stream::same_size(answer, at, lost)
+}
+
+fn same_frame(answer: &[u8], frame: Frame, destination: &[u32]) -> usize {
+    let at = match frame {
+        Frame::Done { t_a, lost } => same_done(answer, Verdict::Pass, t_a, lost),
+        Frame::Refused(refusal) => same_done(answer, Verdict::Refused(refusal), 0, 0),
+    };
+    stream::same_words(answer, at, destination)
+}
+
+// ---- The calls
+
+fn call<'a>(
+    kind: u16,
+    record: Calibration,
+    filtered: FilteredInput,
+    offsets0: &'a [Offset],
+    offsets1: &'a [Offset],
+    alpha: &[f32],
+    k_v: &[f32],
+    k_ta: &[f32],
+    pixels: &[u8],
+    mask: &[u8],
+    destination: &mut [u32],
+) -> Frame {
+    let input = filtered.input;
+    match kind {
+        stream::INFRARED => calculations::raw_pixels_to_ir_data(
+            record, input, offsets0, offsets1, k_v, k_ta, pixels, mask, destination,
+        ),
+        stream::FILTERED_INFRARED => calculations::filtered_pixels_to_ir_data(
+            record, filtered, offsets0, offsets1, k_v, k_ta, pixels, mask, destination,
+        ),
+        stream::ONE_PASS => calculations::raw_pixels_to_temperatures(
+            record, input, offsets0, offsets1, alpha, k_v, k_ta, pixels, mask, destination,
+        ),
+        stream::FILTERED_ONE_PASS => calculations::filtered_pixels_to_temperatures(
+            record, filtered, offsets0, offsets1, alpha, k_v, k_ta, pixels, mask, destination,
+        ),
+        stream::SECOND_PASS => calculations::raw_pixels_to_ranged_temperatures(
+            record, input, offsets0, offsets1, alpha, k_v, k_ta, pixels, mask, destination,
+        ),
+        _ => calculations::filtered_pixels_to_ranged_temperatures(
+            record, filtered, offsets0, offsets1, alpha, k_v, k_ta, pixels, mask, destination,
+        ),
+    }
+}
+
+// On the offsets of a camera, as many entries as the frame says.
+fn on_offsets(
+    kind: u16,
+    camera: &[u8],
+    frame: &[u8],
+    input: &[u8],
+    alpha: &[f32],
+    k_v: &[f32],
+    k_ta: &[f32],
+    destination: &mut [u32],
+) -> Frame {
+    let mut offsets0: [Offset; 200] = [0; 200];
+    let mut offsets1: [Offset; 200] = [0; 200];
+    stream::fill_wholes(camera, 160, &mut offsets0);
+    stream::fill_wholes(camera, 960, &mut offsets1);
+    call(
+        kind,
+        given::record(camera),
+        given::filtered(frame, input),
+        stream::wholes(&offsets0, stream::size_at(frame, 36)),
+        stream::wholes(&offsets1, stream::size_at(frame, 38)),
+        alpha,
+        k_v,
+        k_ta,
+        stream::bytes(frame, 52, stream::size_at(frame, 46)),
+        given::mask(frame),
+        destination,
+    )
+}
+
+// On all its tables.
+fn on_tables(
+    kind: u16,
+    camera: &[u8],
+    frame: &[u8],
+    input: &[u8],
+    destination: &mut [u32],
+) -> Frame {
+    let mut alpha = [0.0f32; 200];
+    let mut k_v = [0.0f32; 200];
+    let mut k_ta = [0.0f32; 200];
+    stream::fill_reals(camera, 1760, &mut alpha);
+    stream::fill_reals(camera, 2560, &mut k_v);
+    stream::fill_reals(camera, 3360, &mut k_ta);
+    on_offsets(
+        kind,
+        camera,
+        frame,
+        input,
+        stream::reals(&alpha, stream::size_at(frame, 40)),
+        stream::reals(&k_v, stream::size_at(frame, 42)),
+        stream::reals(&k_ta, stream::size_at(frame, 44)),
+        destination,
+    )
+}
+
+fn from_pixels(kind: u16, camera: &[u8], frame: &[u8], input: &[u8], answer: &[u8]) -> usize {
+    let mut destination = [0u32; 200];
+    stream::fill_words(frame, 652, &mut destination);
+    let done = on_tables(
+        kind,
+        camera,
+        frame,
+        input,
+        stream::words_mut(&mut destination, given::entries(frame)),
+    );
+    same_frame(answer, done, &destination)
+}
+
+// The destination before: the frame's, or the input's own if it has one.
+fn fill_before(frame: &[u8], input: &[u8], destination: &mut [u32]) {
+    if input.len() < 804 {
+        stream::fill_words(frame, 652, destination);
+        return;
+    }
+    stream::fill_words(input, 4, destination);
+}
+
+fn from_infrared(camera: &[u8], frame: &[u8], input: &[u8], answer: &[u8]) -> usize {
+    let mut alpha = [0.0f32; 200];
+    let mut destination = [0u32; 200];
+    stream::fill_reals(camera, 1760, &mut alpha);
+    fill_before(frame, input, &mut destination);
+    let done = calculations::raw_ir_to_temperatures(
+        given::record(camera),
+        given::settings(frame),
+        stream::real_at(input, 0),
+        stream::reals(&alpha, stream::size_at(frame, 40)),
+        given::mask(frame),
+        stream::words_mut(&mut destination, given::entries(frame)),
+    );
+    same_frame(answer, done, &destination)
+}
+
+pub fn agreed(kind: u16, camera: &[u8], frame: &[u8], input: &[u8], answer: &[u8]) -> usize {
+    if kind == stream::TEMPERATURES {
+        return from_infrared(camera, frame, input, answer);
+    }
+    from_pixels(kind, camera, frame, input, answer)
+}
