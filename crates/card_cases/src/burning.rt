@@ -20,11 +20,7 @@ pub fn burn(input: &[u8], answer: &[u8]) -> usize {
     let mut present = [0u8; 1680];
     stream::fill_bytes(input, 4, &mut present);
     let length = stream::size_at(input, 0);
-    let wanted = stream::bytes(
-        stream::rest(input, 1684),
-        0,
-        stream::size_at(input, 2),
-    );
+    let wanted = stream::bytes(stream::rest(input, 1684), 0, stream::size_at(input, 2));
     let next = burn::next_step(stream::bytes(&present, 0, length), wanted);
     let burnt = burn::burn(stream::bytes_mut(&mut present, length), wanted);
     let done = burnt.step;

@@ -119,12 +119,7 @@ pub fn row(input: &[u8], answer: &[u8]) -> usize {
     stream::same_bytes(answer, 0, eeprom::alpha_row(stream::rest(input, 8), number))
 }
 
-fn same_part<'a>(
-    answer: &[u8],
-    subpage: u8,
-    zero: &'a [Offset],
-    one: &'a [Offset],
-) -> usize {
+fn same_part<'a>(answer: &[u8], subpage: u8, zero: &'a [Offset], one: &'a [Offset]) -> usize {
     let which = if subpage == 0 {
         Subpage::Zero
     } else {

@@ -122,16 +122,25 @@ fn event(
 ) -> Turn {
     match stream::byte_at(input, turn.at) {
         0 => take(
-            input, answer, turn, image, offsets0, offsets1, alpha, k_v, k_ta,
+            input,
+            answer,
+            turn,
+            image,
+            offsets0,
+            offsets1,
+            alpha,
+            k_v,
+            k_ta,
         ),
         1 => finish(answer, turn),
         2 => ask(answer, turn),
-        4 => set(input, turn),
-        _ => {
+        3 => {
             let mut at = turn.agreed;
             at = loads::same_tables(answer, at, offsets0, offsets1, alpha, k_v, k_ta);
             turned(turn, 1, stream::same_bytes(answer, at, image), turn.reading)
         }
+        4 => set(input, turn),
+        _ => turned(turn, 1, stream::FAILED, turn.reading),
     }
 }
 

@@ -42,22 +42,74 @@ fn call<'a>(
     let input = filtered.input;
     match kind {
         stream::INFRARED => calculations::raw_pixels_to_ir_data(
-            record, input, offsets0, offsets1, k_v, k_ta, pixels, mask, destination,
+            record,
+            input,
+            offsets0,
+            offsets1,
+            k_v,
+            k_ta,
+            pixels,
+            mask,
+            destination,
         ),
         stream::FILTERED_INFRARED => calculations::filtered_pixels_to_ir_data(
-            record, filtered, offsets0, offsets1, k_v, k_ta, pixels, mask, destination,
+            record,
+            filtered,
+            offsets0,
+            offsets1,
+            k_v,
+            k_ta,
+            pixels,
+            mask,
+            destination,
         ),
         stream::ONE_PASS => calculations::raw_pixels_to_temperatures(
-            record, input, offsets0, offsets1, alpha, k_v, k_ta, pixels, mask, destination,
+            record,
+            input,
+            offsets0,
+            offsets1,
+            alpha,
+            k_v,
+            k_ta,
+            pixels,
+            mask,
+            destination,
         ),
         stream::FILTERED_ONE_PASS => calculations::filtered_pixels_to_temperatures(
-            record, filtered, offsets0, offsets1, alpha, k_v, k_ta, pixels, mask, destination,
+            record,
+            filtered,
+            offsets0,
+            offsets1,
+            alpha,
+            k_v,
+            k_ta,
+            pixels,
+            mask,
+            destination,
         ),
         stream::SECOND_PASS => calculations::raw_pixels_to_ranged_temperatures(
-            record, input, offsets0, offsets1, alpha, k_v, k_ta, pixels, mask, destination,
+            record,
+            input,
+            offsets0,
+            offsets1,
+            alpha,
+            k_v,
+            k_ta,
+            pixels,
+            mask,
+            destination,
         ),
         _ => calculations::filtered_pixels_to_ranged_temperatures(
-            record, filtered, offsets0, offsets1, alpha, k_v, k_ta, pixels, mask, destination,
+            record,
+            filtered,
+            offsets0,
+            offsets1,
+            alpha,
+            k_v,
+            k_ta,
+            pixels,
+            mask,
+            destination,
         ),
     }
 }
@@ -156,9 +208,22 @@ fn from_infrared(camera: &[u8], frame: &[u8], input: &[u8], answer: &[u8]) -> us
     same_frame(answer, done, &destination)
 }
 
-pub fn agreed(kind: u16, camera: &[u8], frame: &[u8], input: &[u8], answer: &[u8]) -> usize {
+// ---- The shelf: a camera, and behind it a frame
+
+const CAMERA_BYTES: usize = 4160;
+
+pub fn camera_mut<'a>(shelf: &'a mut [u8]) -> &'a mut [u8] {
+    stream::bytes_mut(shelf, CAMERA_BYTES)
+}
+
+pub fn frame_mut<'a>(shelf: &'a mut [u8]) -> &'a mut [u8] {
+    stream::rest_mut(shelf, CAMERA_BYTES)
+}
+
+pub fn agreed(kind: u16, shelf: &[u8], input: &[u8], answer: &[u8]) -> usize {
+    let frame = stream::rest(shelf, CAMERA_BYTES);
     if kind == stream::TEMPERATURES {
-        return from_infrared(camera, frame, input, answer);
+        return from_infrared(shelf, frame, input, answer);
     }
-    from_pixels(kind, camera, frame, input, answer)
+    from_pixels(kind, shelf, frame, input, answer)
 }

@@ -38,56 +38,54 @@ fn next_head() -> Head {
     }
 }
 
-// Whether so many bytes came, and there was room for them.
-fn read_part(room: &mut [u8], length: usize) -> bool {
-    io::read_full(STDIN_FILENO, stream::bytes_mut(room, length)) == length
+// Reads name, input and answer. False where the stream stops within them, or there is no room.
+fn read_rest(head: Head, case: &mut [u8]) -> bool {
+    let length = stream::after(head.name, stream::after(head.input, head.answer));
+    io::read_full(STDIN_FILENO, stream::bytes_mut(case, length)) == length
 }
 
-fn read_parts(head: Head, name: &mut [u8], input: &mut [u8], answer: &mut [u8]) -> bool {
-    let named = read_part(name, head.name);
-    let given = read_part(input, head.input);
-    let answered = read_part(answer, head.answer);
-    named && given && answered
-}
-
-// How far the answer agrees. A camera and a frame are kept for the cases that follow, and so are the record and the tables of a load's answer.
-fn agreed(kind: u16, camera: &mut [u8], frame: &mut [u8], input: &[u8], answer: &[u8]) -> usize {
+// A camera and a frame stand on the shelf for the cases that follow, and so do the record and the tables of a load's answer.
+fn put_by(kind: u16, shelf: &mut [u8], input: &[u8], answer: &[u8]) {
     match kind {
-        stream::CAMERA => {
-            stream::fill_bytes(input, 0, camera);
-            0
-        }
-        stream::FRAME => {
-            stream::fill_bytes(input, 0, frame);
-            0
-        }
-        stream::LOAD => {
-            stream::fill_bytes(answer, 32, camera);
-            card_cases::agreed(kind, input, answer)
-        }
-        stream::INFRARED..=stream::TEMPERATURES => {
-            frame_cases::agreed(kind, camera, frame, input, answer)
-        }
+        stream::CAMERA => stream::fill_bytes(input, 0, frame_cases::camera_mut(shelf)),
+        stream::FRAME => stream::fill_bytes(input, 0, frame_cases::frame_mut(shelf)),
+        stream::LOAD => stream::fill_bytes(answer, 32, frame_cases::camera_mut(shelf)),
+        _ => {}
+    }
+}
+
+// How far the answer agrees.
+fn agreed(kind: u16, shelf: &[u8], input: &[u8], answer: &[u8]) -> usize {
+    match kind {
+        stream::CAMERA => 0,
+        stream::FRAME => 0,
+        stream::INFRARED..=stream::TEMPERATURES => frame_cases::agreed(kind, shelf, input, answer),
         _ => card_cases::agreed(kind, input, answer),
     }
 }
 
-// Reads the rest of a case and makes its call: how far the answer agrees, or CUT_OFF where the stream stops within the case.
-fn run_case(
-    head: Head,
-    name: &mut [u8; 256],
-    input: &mut [u8; 65536],
-    answer: &mut [u8; 65536],
-    camera: &mut [u8; 4160],
-    frame: &mut [u8; 1452],
-) -> usize {
-    let whole = read_parts(head, name, input, answer);
-    if !whole || head.kind == CUT {
+// Makes the call of a case.
+fn call(head: Head, case: &[u8], shelf: &mut [u8]) -> usize {
+    let input = stream::bytes(case, head.name, head.input);
+    let answer = stream::bytes(case, stream::after(head.name, head.input), head.answer);
+    put_by(head.kind, shelf, input, answer);
+    agreed(head.kind, shelf, input, answer)
+}
+
+fn is_kind(kind: u16) -> bool {
+    match kind {
+        stream::ENCODE..=stream::PIXEL => true,
+        _ => false,
+    }
+}
+
+// Reads the rest of a case and makes its call: how far the answer agrees, or CUT_OFF where the stream stops within it or it is of no kind.
+fn run_case(head: Head, case: &mut [u8; 65536], shelf: &mut [u8; 65536]) -> usize {
+    let whole = read_rest(head, case);
+    if !whole || !is_kind(head.kind) {
         return lines::CUT_OFF;
     }
-    let given = stream::bytes(input, 0, head.input);
-    let expected = stream::bytes(answer, 0, head.answer);
-    agreed(head.kind, camera, frame, given, expected)
+    call(head, case, shelf)
 }
 
 // One more case of a kind, and one more that agrees if it does.
@@ -99,29 +97,29 @@ fn count(cases: &mut [u64; 24], agree: &mut [u64; 24], kind: u16, same: bool) {
 }
 
 // The name of the first case that does not agree.
-fn keep_name(first: First, here: &[u8; 256], name: &mut [u8; 256]) {
+fn keep_name(first: First, case: &[u8; 65536], name: &mut [u8; 4096]) {
     if !first.any {
-        stream::fill_bytes(here, 0, name);
+        stream::fill_bytes(case, 0, name);
     }
 }
 
 // Counts the cases of each kind. Answers the first that does not agree, with its name.
-fn run_cases(cases: &mut [u64; 24], agree: &mut [u64; 24], name: &mut [u8; 256]) -> First {
-    let mut here = [0u8; 256];
-    let mut input = io::large_buffer();
-    let mut answer = io::large_buffer();
-    let mut camera = [0u8; 4160];
-    let mut frame = [0u8; 1452];
+fn run_cases(cases: &mut [u64; 24], agree: &mut [u64; 24], name: &mut [u8; 4096]) -> First {
+    let mut case = io::large_buffer();
+    let mut shelf = io::large_buffer();
     let mut first = lines::no_first();
     for number in 0..MOST {
         let head = next_head();
         if head.kind == ENDED {
             break;
         }
-        let at = run_case(head, &mut here, &mut input, &mut answer, &mut camera, &mut frame);
+        let at = run_case(head, &mut case, &mut shelf);
         let same = at == head.answer;
-        keep_name(first, &here, name);
-        first = lines::earlier(first, lines::outcome(same, number, head.kind, head.name, at));
+        keep_name(first, &case, name);
+        first = lines::earlier(
+            first,
+            lines::outcome(same, number, head.kind, head.name, at),
+        );
         if at == lines::CUT_OFF {
             break;
         }
@@ -133,7 +131,7 @@ fn run_cases(cases: &mut [u64; 24], agree: &mut [u64; 24], name: &mut [u8; 256])
 pub fn run() {
     let mut cases = [0u64; 24];
     let mut agree = [0u64; 24];
-    let mut name = [0u8; 256];
+    let mut name = io::buffer();
     let first = run_cases(&mut cases, &mut agree, &mut name);
     lines::kind_lines(&cases, &agree);
     lines::first_line(first, &name);

@@ -73,13 +73,8 @@ fn kind_name(kind: u16) -> bool {
     }
 }
 
-// A camera and a frame have no answer.
-fn is_counted(kind: u16, cases: u64) -> bool {
-    0 < cases && kind != stream::CAMERA && kind != stream::FRAME
-}
-
 fn kind_line(kind: u16, cases: u64, agree: u64) {
-    if !is_counted(kind, cases) {
+    if cases == 0 {
         return;
     }
     kind_name(kind);
@@ -90,10 +85,15 @@ fn kind_line(kind: u16, cases: u64, agree: u64) {
     put(b"\n");
 }
 
+// A camera and a frame have no answer.
 pub fn kind_lines(cases: &[u64; 24], agree: &[u64; 24]) {
     for kind in 0..24u16 {
         let k = kind as usize;
-        kind_line(kind, cases[k], agree[k]);
+        match kind {
+            stream::CAMERA => {}
+            stream::FRAME => {}
+            _ => kind_line(kind, cases[k], agree[k]),
+        }
     }
 }
 
@@ -106,7 +106,7 @@ fn case_line(first: First, name: &[u8]) {
     put_number((first.at % stream::FAILED) as u64);
 }
 
-pub fn first_line(first: First, name: &[u8; 256]) {
+pub fn first_line(first: First, name: &[u8; 4096]) {
     put(b"first disagreement\t");
     if !first.any {
         put(b"none\n");

@@ -191,6 +191,12 @@ pub fn bytes_mut<'a>(list: &'a mut [u8], n: usize) -> &'a mut [u8] {
     &mut list[0..end]
 }
 
+pub fn rest_mut<'a>(list: &'a mut [u8], from: usize) -> &'a mut [u8] {
+    let start = util::least(from, list.len());
+    let end = list.len();
+    &mut list[start..end]
+}
+
 pub fn halves_mut<'a>(list: &'a mut [u16], n: usize) -> &'a mut [u16] {
     let end = util::least(n, list.len());
     &mut list[0..end]
