@@ -45,7 +45,7 @@ fn read_rest(head: Head, case: &mut [u8]) -> bool {
 }
 
 // A camera and a frame stand on the shelf for the cases that follow, and so do the record and the tables of a load's answer.
-fn put_by(kind: u16, shelf: &mut [u8], input: &[u8], answer: &[u8]) {
+fn shelve(kind: u16, shelf: &mut [u8], input: &[u8], answer: &[u8]) {
     match kind {
         stream::CAMERA => stream::fill_bytes(input, 0, frame_cases::camera_mut(shelf)),
         stream::FRAME => stream::fill_bytes(input, 0, frame_cases::frame_mut(shelf)),
@@ -68,7 +68,7 @@ fn agreed(kind: u16, shelf: &[u8], input: &[u8], answer: &[u8]) -> usize {
 fn call(head: Head, case: &[u8], shelf: &mut [u8]) -> usize {
     let input = stream::bytes(case, head.name, head.input);
     let answer = stream::bytes(case, stream::after(head.name, head.input), head.answer);
-    put_by(head.kind, shelf, input, answer);
+    shelve(head.kind, shelf, input, answer);
     agreed(head.kind, shelf, input, answer)
 }
 
