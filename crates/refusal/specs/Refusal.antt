@@ -1,8 +1,8 @@
--- Document 01, "When the gate says stop", and the refusals of document 02: number, place and value of each, row by row. Assumes nothing.
+-- Document 01, "When the gate says stop", and the refusals of document 02 and of the MLX90640's paper: number, place and value of each, row by row. Assumes nothing.
 use Prim.Native.Nat.{ℕ}
 use Rattle.refusal.specs.declared.Told.{Told}
 use Rattle.refusal.specs.declared.Refusal.{Refusal}
-use Rattle.refusal.specs.declared.Refusal.the-variants.{ShortImage, ListLength, ShortTable, DamagedWord, LargeScale, BasicRange, SupplyRange, ZeroDivisor, DataTooLarge, ListedDataTooLarge, ShortFrame, UncheckedWord, UnorderedCorners, ZeroFactor, PixelNumber}
+use Rattle.refusal.specs.declared.Refusal.the-variants.{ShortImage, ListLength, ShortTable, DamagedWord, LargeScale, LargePixel, BasicRange, SupplyRange, ZeroDivisor, DataTooLarge, ListedDataTooLarge, ShortFrame, UncheckedWord, UnorderedCorners, ZeroFactor, PixelNumber}
 use Rattle.refusal.specs.declared.Verdict.{Verdict}
 use Rattle.refusal.specs.declared.Verdict.the-variants.{Pass, Refused}
 
@@ -15,6 +15,7 @@ toldOf (ListLength length) = says 1 length 0
 toldOf ShortTable = says 2 0 0
 toldOf (DamagedWord word bits) = says 3 word bits
 toldOf (LargeScale scale) = says 4 scale 0
+toldOf (LargePixel pixel) = says 5 pixel 0
 toldOf (BasicRange range) = says 6 range 0
 toldOf SupplyRange = says 7 0 0
 toldOf ZeroDivisor = says 8 0 0

@@ -13,6 +13,8 @@ pub enum Refusal {
     DamagedWord { word: usize, bits: u16 },
     // 4: the offset scale is 21 or more.
     LargeScale { scale: u16 },
+    // 5: a whole number of this pixel does not fit 16 bits.
+    LargePixel { pixel: usize },
     // 6: there is no such temperature range.
     BasicRange { range: usize },
     // 7: the supply reading is too far from its reference.
@@ -62,6 +64,7 @@ impl Refusal {
             Refusal::ShortTable => said(2, 0, 0),
             Refusal::DamagedWord { word, bits } => said(3, word as u64, bits as u64),
             Refusal::LargeScale { scale } => said(4, scale as u64, 0),
+            Refusal::LargePixel { pixel } => said(5, pixel as u64, 0),
             Refusal::BasicRange { range } => said(6, range as u64, 0),
             Refusal::SupplyRange => said(7, 0, 0),
             Refusal::ZeroDivisor => said(8, 0, 0),
