@@ -1,0 +1,62 @@
+-- How large the parts of a pixel's offset and their sums are: whatever the card says, they fit 32 bits. Assumes nothing.
+use Prim.Native.Nat.{ℕ, zero, suc, _+_, _-_, _*_, _/_, _%_, _^_, _<_, _≤_}
+use native.Mathlib.Nat.{le-trans, mul-le-mul-left, mul-le-mul-right, mod-lt}
+use native.Mathlib.Omega.{arith}
+use lib.Dec.{lit≤}
+use lib.IntN.{ℤ, pos, negsuc, negℤ, _+ℤ_, _*ℤ_}
+use lib.ListN.{getD}
+use lib.Pow.{pow-mono}
+use lib.Signed.{mag}
+use Rattle.util.specs.Fields.{signed}
+use Rattle.util.proofs.Width.{stands}
+use Rattle.util.proofs.Range.{sum-mag}
+use Rattle.mlx90640.specs.Pixels.{row, column}
+use Rattle.sums640.specs.Sums.{scaled, rowScale, columnScale, restScale, coefficientAt, rowSumAt, columnAt, baseAt, pixelWord, offsetAt, averageBytes, averageAt}
+
+minus : (r : ℕ) → mag (negℤ (pos r)) ≤ r
+minus zero = omega arith
+minus (suc r) = omega arith
+
+times : (z : ℤ) (p m q : ℕ) → mag z < m → p ≤ q → mag (z *ℤ pos p) ≤ m * q
+times (pos n) p m q h l = le-trans (mul-le-mul-left n l) (let k : n ≤ m = omega arith in mul-le-mul-right q k)
+times (negsuc n) p m q h l = le-trans (minus (suc n * p)) (le-trans (mul-le-mul-left (suc n) l) (let k : suc n ≤ m = h in mul-le-mul-right q k))
+
+pub signed-mag : (width n : ℕ) → 1 ≤ width → width ≤ 6 → mag (signed width n) < 32
+signed-mag width n h l = le-trans (stands width h .range n) (pow-mono {i = width - 1} {j = 5} (omega arith))
+
+-- a field of at most six bits times at most 2 ^ 15
+pub scaled-mag : (width n scale : ℕ) → 1 ≤ width → width ≤ 6 → scale < 16 → mag (scaled width n scale) ≤ 1048576
+unfolding scaled
+scaled-mag width n scale h l s = times (signed width n) (2 ^ scale) 32 32768 (signed-mag width n h l) (pow-mono {i = scale} {j = 15} (omega arith))
+
+small : (n : ℕ) → n % 16 < 16
+small n = mod-lt n (omega arith)
+
+pub average-mag : (n : ℕ) → mag (signed 16 n) ≤ 32767
+average-mag n = let h = stands 16 (lit≤ tt) .range n in omega arith
+
+module _ (w : ℕ → ℕ) where
+  pub coefficient-mag : (first k scale : ℕ) → scale < 16 → mag (coefficientAt w first k scale) ≤ 1048576
+  unfolding coefficientAt
+  coefficient-mag first k scale h = scaled-mag 4 _ scale (lit≤ tt) (lit≤ tt) h
+
+  pub row-sum-mag : (first k : ℕ) → mag (rowSumAt w first k) ≤ 1081344
+  unfolding rowSumAt
+  row-sum-mag first k = sum-mag 32767 1048576 1081344 (signed 16 (w (first + 1))) (coefficientAt w (first + 2) k (rowScale (w first))) (omega arith) (average-mag (w (first + 1))) (coefficient-mag (first + 2) k _ (small (w first / 256)))
+
+  pub column-mag : (first k : ℕ) → mag (columnAt w first k) ≤ 1048576
+  unfolding columnAt
+  column-mag first k = coefficient-mag (first + 8) k _ (small (w first / 16))
+
+  pub base-mag : (first pixel : ℕ) → mag (baseAt w first pixel) ≤ 2129921
+  unfolding baseAt
+  base-mag first pixel = sum-mag 1081344 1048576 2129921 (rowSumAt w first (row pixel)) (columnAt w first (column pixel)) (omega arith) (row-sum-mag first (row pixel)) (column-mag first (column pixel))
+
+  pub offset-mag : (pixel : ℕ) → mag (offsetAt w pixel) ≤ 3178498
+  unfolding offsetAt
+  offset-mag pixel =
+      sum-mag 2129921 1048576 3178498 (baseAt w 16 pixel) (scaled 6 (pixelWord w pixel / 1024) (restScale (w 16))) (omega arith) (base-mag 16 pixel) (scaled-mag 6 _ _ (lit≤ tt) (lit≤ tt) (small (w 16)))
+
+  pub k-ta-average-mag : (entry : ℕ) → mag (averageAt w entry) < 128
+  unfolding averageAt
+  k-ta-average-mag entry = stands 8 (lit≤ tt) .range (getD (averageBytes w) entry 0)

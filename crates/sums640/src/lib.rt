@@ -1,0 +1,163 @@
+// The whole numbers of the MLX90640's pixels: sums of signed fields times powers of two, exactly, and the first pixel with one outside i16.
+ghost use mathlib.Core.Path.{_≡_};
+ghost use Prim.Native.Nat.{_+_, _*_, _/_, _%_, _^_, _<_, _≤_};
+ghost use lib.IntN.{_+ℤ_, pos};
+ghost use lib.ListN.{length, getD};
+ghost use lib.Signed.{mag};
+ghost use Rattle.lists.specs.Written.{filled};
+ghost use Rattle.util.specs.Words.{wordAt};
+ghost use Rattle.util.specs.Fields.{signed};
+ghost use Rattle.sums640.specs.Sums.{pixelCount, sharedCount, scaled, coefficientAt, rowSumAt, columnAt, averageBytes, averageAt, partAt, sharedAt, Shared, baseAt, offsetAt, alphaBaseAt, alphaRestAt, kTaSumAt, outsideAt, firstOutside};
+
+pub const PIXELS: usize = 768;
+
+// How many numbers many pixels share.
+pub const SHARED: usize = 116;
+
+// The low bits of a word, signed, times 2^scale.
+fn scaled(word: u16, width: u32, scale: u16) -> i32
+    requires { ⌜ (1 ≤ width) × (width ≤ 6) × (scale < 16) ⌝ }
+    ensures { λ r. ⌜ r ≡ scaled width word scale ⌝ }
+{
+    let raw = util::i16_from_bits(util::wide(word), width);
+    raw as i32 * (1i32 << scale)
+}
+
+// A word from its nibble of this index on, the lowest first.
+fn from_nibble(word: u16, index: usize) -> u16
+    requires { ⌜ index < 4 ⌝ }
+    ensures { λ r. ⌜ r ≡ word / 2 ^ (4 * index) ⌝ }
+{
+    match index {
+        0 => word,
+        1 => word / 16,
+        2 => word / 256,
+        _ => word / 4096,
+    }
+}
+
+// The exact sum of two parts.
+fn sum(a: i32, b: i32) -> i32
+    requires { ⌜ (mag a ≤ 16777216) × (mag b ≤ 16777216) ⌝ }
+    ensures { λ r. ⌜ r ≡ a +ℤ b ⌝ }
+{
+    a + b
+}
+
+// Coefficient `index` of the words from first on, times 2^scale.
+fn coefficient(image: &[u8], first: usize, index: usize, scale: u16) -> i32
+    requires { ⌜ (first + index / 4 < 832) × (1664 ≤ length (now image)) × (scale < 16) ⌝ }
+    ensures { λ r. ⌜ r ≡ coefficientAt (wordAt (now (image .entry))) first index scale ⌝ }
+{
+    let word = util::word_at(image, first + index / 4);
+    scaled(from_nibble(word, index % 4), 4, scale)
+}
+
+// The average.
+fn average(image: &[u8], word: usize) -> i32
+    requires { ⌜ (word < 832) × (1664 ≤ length (now image)) ⌝ }
+    ensures { λ r. ⌜ r ≡ signed 16 (wordAt (now (image .entry)) word) ⌝ }
+{
+    let bits = util::word_at(image, word);
+    util::i16_from_bits(util::wide(bits), 16) as i32
+}
+
+// Average + row, from the word of scales on.
+fn row_sum(image: &[u8], first: usize, row: usize) -> i32
+    requires { ⌜ (first ≤ 32) × (row < 24) × (1664 ≤ length (now image)) ⌝ }
+    ensures { λ r. ⌜ r ≡ rowSumAt (wordAt (now (image .entry))) first row ⌝ }
+{
+    let scales = util::word_at(image, first);
+    sum(
+        average(image, first + 1),
+        coefficient(image, first + 2, row, scales / 256 % 16),
+    )
+}
+
+fn column(image: &[u8], first: usize, column: usize) -> i32
+    requires { ⌜ (first ≤ 32) × (column < 32) × (1664 ≤ length (now image)) ⌝ }
+    ensures { λ r. ⌜ r ≡ columnAt (wordAt (now (image .entry))) first column ⌝ }
+{
+    let scales = util::word_at(image, first);
+    coefficient(image, first + 8, column, scales / 16 % 16)
+}
+
+// The byte of a K_Ta average, as the low bits of a word.
+fn average_byte(image: &[u8], entry: usize) -> u16
+    requires { ⌜ (entry < 4) × (1664 ≤ length (now image)) ⌝ }
+    ensures { λ r. ⌜ r ≡ getD (averageBytes (wordAt (now (image .entry)))) entry 0 ⌝ }
+{
+    match entry {
+        0 => util::word_at(image, 54) / 256,
+        1 => util::word_at(image, 54),
+        2 => util::word_at(image, 55) / 256,
+        _ => util::word_at(image, 55),
+    }
+}
+
+// A K_Ta average, eight bits signed, by the chessboard.
+fn k_ta_average(image: &[u8], entry: usize) -> i32
+    requires { ⌜ (entry < 4) × (1664 ≤ length (now image)) ⌝ }
+    ensures { λ r. ⌜ r ≡ averageAt (wordAt (now (image .entry))) entry ⌝ }
+{
+    let byte = average_byte(image, entry);
+    util::i16_from_bits(util::wide(byte), 8) as i32
+}
+
+// ---- What many pixels share
+
+// One of 24 rows and 32 columns, from the word of scales on.
+fn part(image: &[u8], first: usize, index: usize) -> i32
+    requires { ⌜ (first ≤ 32) × (index < 56) × (1664 ≤ length (now image)) ⌝ }
+    ensures { λ r. ⌜ r ≡ partAt (wordAt (now (image .entry))) first index ⌝ }
+{
+    if index < 24 {
+        return row_sum(image, first, index);
+    }
+    column(image, first, index - 24)
+}
+
+fn shared_at(image: &[u8], index: usize) -> i32
+    requires { ⌜ (index < sharedCount) × (1664 ≤ length (now image)) ⌝ }
+    ensures { λ r. ⌜ r ≡ sharedAt (wordAt (now (image .entry))) index ⌝ }
+{
+    if index < 56 {
+        return part(image, 16, index);
+    }
+    if index < 112 {
+        return part(image, 32, index - 56);
+    }
+    k_ta_average(image, index - 112)
+}
+
+// All of them, into the start of a list.
+pub fn fill_shared(image: &[u8], shared: &mut [i32])
+    requires { ⌜ (1664 ≤ length (now image)) × (sharedCount ≤ length (now shared)) ⌝ }
+    ensures { λ _. ⌜ Shared (wordAt (now (image .entry))) (now (shared .exit)) ⌝ }
+{
+    for index in 0..SHARED {
+        shared[index] = shared_at(image, index);
+    }
+}
+
+// ---- The four whole numbers of a pixel
+
+// A row's and a column's number, from a place of the list on.
+fn base(shared: &[i32], from: usize, pixel: usize) -> i32
+    requires { ⌜ (from ≤ 56) × (pixel < pixelCount) × (sharedCount ≤ length (now shared)) ⌝ }
+    requires { ⌜ (mag (getD (now shared) (from + pixel / 32) (pos 0)) ≤ 16777216) × (mag (getD (now shared) (from + 24 + pixel % 32) (pos 0)) ≤ 16777216) ⌝ }
+    ensures { λ r. ⌜ r ≡ getD (now (shared .entry)) (from + pixel / 32) (pos 0) +ℤ getD (now (shared .entry)) (from + 24 + pixel % 32) (pos 0) ⌝ }
+{
+    sum(shared[from + pixel / 32], shared[from + 24 + pixel % 32])
+}
+
+fn offset_at(image: &[u8], shared: &[i32], pixel: usize) -> i32
+    requires { ⌜ (pixel < pixelCount) × (1664 ≤ length (now image)) × (sharedCount ≤ length (now shared)) ⌝ }
+    requires { ⌜ Shared (wordAt (now image)) (now shared) ⌝ }
+    ensures { λ r. ⌜ r ≡ offsetAt (wordAt (now (image .entry))) pixel ⌝ }
+{
+    let scales = util::word_at(image, 16);
+    let word = util::word_at(image, 64 + pixel);
+    let rest = scaled(word / 1024, 6, scales % 16);
+    sum(base(shared, 0, pixel), rest)
+}
