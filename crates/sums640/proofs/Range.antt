@@ -2,7 +2,8 @@
 use Prim.Native.Nat.{ℕ, zero, suc, _+_, _-_, _*_, _/_, _%_, _^_, _<_, _≤_}
 use native.Mathlib.Nat.{le-trans, mul-le-mul-left, mul-le-mul-right, mod-lt}
 use native.Mathlib.Omega.{arith}
-use lib.Dec.{lit≤}
+use lib.Dec.{T, lit≤, le→leb, lt→ltb}
+use lib.Ieee.{binary32, inFloat}
 use lib.IntN.{ℤ, pos, negsuc, negℤ, _+ℤ_, _*ℤ_}
 use lib.ListN.{getD}
 use lib.Pow.{pow-mono}
@@ -10,8 +11,8 @@ use lib.Signed.{mag}
 use Rattle.util.specs.Fields.{signed}
 use Rattle.util.proofs.Width.{stands}
 use Rattle.util.proofs.Range.{sum-mag}
-use Rattle.mlx90640.specs.Pixels.{row, column}
-use Rattle.sums640.specs.Sums.{scaled, rowScale, columnScale, restScale, coefficientAt, rowSumAt, columnAt, baseAt, pixelWord, offsetAt, averageBytes, averageAt}
+use Rattle.mlx90640.specs.Pixels.{row, column, chessboardAt}
+use Rattle.sums640.specs.Sums.{scaled, rowScale, columnScale, restScale, coefficientAt, rowSumAt, columnAt, baseAt, pixelWord, offsetAt, averageBytes, averageAt, alphaBaseAt, alphaRestAt, kTaSumAt}
 
 minus : (r : ℕ) → mag (negℤ (pos r)) ≤ r
 minus zero = omega arith
@@ -60,3 +61,22 @@ module _ (w : ℕ → ℕ) where
   pub k-ta-average-mag : (entry : ℕ) → mag (averageAt w entry) < 128
   unfolding averageAt
   k-ta-average-mag entry = stands 8 (lit≤ tt) .range (getD (averageBytes w) entry 0)
+
+  pub alpha-base-mag : (pixel : ℕ) → mag (alphaBaseAt w pixel) ≤ 2129921
+  unfolding alphaBaseAt
+  alpha-base-mag pixel = base-mag 32 pixel
+
+  pub alpha-rest-mag : (pixel : ℕ) → mag (alphaRestAt w pixel) ≤ 1048576
+  unfolding alphaRestAt
+  alpha-rest-mag pixel = scaled-mag 6 _ _ (lit≤ tt) (lit≤ tt) (small (w 32))
+
+  pub k-ta-sum-mag : (pixel : ℕ) → mag (kTaSumAt w pixel) ≤ 1048705
+  unfolding kTaSumAt
+  k-ta-sum-mag pixel =
+      sum-mag 128 1048576 1048705 (averageAt w (chessboardAt pixel)) (scaled 3 (pixelWord w pixel / 2) (restScale (w 56))) (omega arith) (let h = k-ta-average-mag (chessboardAt pixel) in omega arith) (scaled-mag 3 _ _ (lit≤ tt) (lit≤ tt) (small (w 56)))
+
+-- an f32 holds it
+pub held : (z : ℤ) → mag z < 16777216 → T (inFloat binary32 z)
+unfolding inFloat
+held (pos n) h = le→leb n 0x1000000 (omega arith)
+held (negsuc n) h = lt→ltb n 0x1000000 (omega arith)

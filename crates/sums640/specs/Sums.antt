@@ -4,12 +4,14 @@ use Prim.Native.Nat.{ℕ, _+_, _-_, _*_, _/_, _%_, _^_}
 use mathlib.Core.Path.{_≡_}
 use mathlib.Core.Bool.{Bool, true, false}
 use mathlib.Core.List.{List, [], _∷_}
+use lib.Ieee.{Float}
 use lib.IntN.{ℤ, pos, _+ℤ_, _*ℤ_}
 use lib.Dec.{ltb}
 use lib.ListN.{getD}
 use Rattle.lists.specs.Each.{Each}
 use Rattle.lists.specs.First.{firstFrom}
 use Rattle.lists.specs.Pick.{pick}
+use Rattle.floats.specs.Floats.{real, powerOfTwo, over, _⊕_, _⊘_}
 use Rattle.util.specs.Fields.{signed, inI16}
 use Rattle.mlx90640.specs.Pixels.{row, column, chessboardAt}
 
@@ -68,6 +70,14 @@ averageAt w entry = signed 8 (getD (averageBytes w) entry 0)
 
 unfoldable pub kTaSumAt : (ℕ → ℕ) → ℕ → ℤ
 kTaSumAt w pixel = averageAt w (chessboardAt pixel) +ℤ scaled 3 (pixelWord w pixel / 2) (restScale (w 56))
+
+-- ---- as the tables have them: offsets stay whole, alpha is over 2 ^ (30 + its scale), K_Ta over 2 ^ (8 + scale 1)
+
+unfoldable pub alphaAt : (ℕ → ℕ) → ℕ → Float
+alphaAt w pixel = (real (alphaBaseAt w pixel) ⊕ real (alphaRestAt w pixel)) ⊘ powerOfTwo (30 + w 32 / 4096 % 16)
+
+unfoldable pub kTaAt : (ℕ → ℕ) → ℕ → Float
+kTaAt w pixel = over (kTaSumAt w pixel) (8 + w 56 / 16 % 16)
 
 -- ---- what rows, columns and the chessboard give to many pixels, worked out once for a card: 24 rows and 32 columns of the offsets, the same of
 -- alpha, and four averages of K_Ta

@@ -4,10 +4,11 @@ ghost use Prim.Native.Nat.{_+_, _*_, _/_, _%_, _^_, _<_, _≤_};
 ghost use lib.IntN.{_+ℤ_, pos};
 ghost use lib.ListN.{length, getD};
 ghost use lib.Signed.{mag};
+ghost use Rattle.floats.specs.Floats.{real, over};
 ghost use Rattle.lists.specs.Written.{filled};
 ghost use Rattle.util.specs.Words.{wordAt};
 ghost use Rattle.util.specs.Fields.{signed};
-ghost use Rattle.sums640.specs.Sums.{pixelCount, sharedCount, scaled, coefficientAt, rowSumAt, columnAt, averageBytes, averageAt, partAt, sharedAt, Shared, baseAt, offsetAt, alphaBaseAt, alphaRestAt, kTaSumAt, outsideAt, firstOutside};
+ghost use Rattle.sums640.specs.Sums.{pixelCount, sharedCount, scaled, coefficientAt, rowSumAt, columnAt, averageBytes, averageAt, partAt, sharedAt, Shared, baseAt, offsetAt, alphaBaseAt, alphaRestAt, kTaSumAt, alphaAt, kTaAt, outsideAt, firstOutside};
 
 pub const PIXELS: usize = 768;
 
@@ -160,4 +161,109 @@ fn offset_at(image: &[u8], shared: &[i32], pixel: usize) -> i32
     let word = util::word_at(image, 64 + pixel);
     let rest = scaled(word / 1024, 6, scales % 16);
     sum(base(shared, 0, pixel), rest)
+}
+
+fn alpha_rest_at(image: &[u8], pixel: usize) -> i32
+    requires { ⌜ (pixel < pixelCount) × (1664 ≤ length (now image)) ⌝ }
+    ensures { λ r. ⌜ r ≡ alphaRestAt (wordAt (now (image .entry))) pixel ⌝ }
+{
+    let scales = util::word_at(image, 32);
+    let word = util::word_at(image, 64 + pixel);
+    scaled(word / 16, 6, scales % 16)
+}
+
+fn k_ta_sum_at(image: &[u8], shared: &[i32], pixel: usize) -> i32
+    requires { ⌜ (pixel < pixelCount) × (1664 ≤ length (now image)) × (sharedCount ≤ length (now shared)) ⌝ }
+    requires { ⌜ Shared (wordAt (now image)) (now shared) ⌝ }
+    ensures { λ r. ⌜ r ≡ kTaSumAt (wordAt (now (image .entry))) pixel ⌝ }
+{
+    let scales = util::word_at(image, 56);
+    let word = util::word_at(image, 64 + pixel);
+    let rest = scaled(word / 2, 3, scales % 16);
+    sum(shared[112 + mlx90640::chessboard_at(pixel)], rest)
+}
+
+// ---- Refusal 5
+
+fn outside_at(image: &[u8], shared: &[i32], pixel: usize) -> bool
+    requires { ⌜ (pixel < pixelCount) × (1664 ≤ length (now image)) × (sharedCount ≤ length (now shared)) ⌝ }
+    requires { ⌜ Shared (wordAt (now image)) (now shared) ⌝ }
+    ensures { λ r. ⌜ r ≡ outsideAt (wordAt (now (image .entry))) pixel ⌝ }
+{
+    if !util::fits_i16(offset_at(image, shared, pixel)) {
+        return true;
+    }
+    if !util::fits_i16(base(shared, 56, pixel)) {
+        return true;
+    }
+    if !util::fits_i16(alpha_rest_at(image, pixel)) {
+        return true;
+    }
+    !util::fits_i16(k_ta_sum_at(image, shared, pixel))
+}
+
+// The first pixel with one of its four whole numbers outside i16, or 768.
+pub fn first_outside(image: &[u8], shared: &[i32]) -> usize
+    requires { ⌜ (1664 ≤ length (now image)) × (sharedCount ≤ length (now shared)) × Shared (wordAt (now image)) (now shared) ⌝ }
+    ensures { λ r. ⌜ r ≡ firstOutside (wordAt (now (image .entry))) ⌝ }
+{
+    for pixel in 0..PIXELS {
+        if outside_at(image, shared, pixel) {
+            return pixel;
+        }
+    }
+    PIXELS
+}
+
+// ---- The tables
+
+// A pixel's alpha, over a power of two.
+fn alpha_at(image: &[u8], shared: &[i32], pixel: usize) -> f32
+    requires { ⌜ (pixel < pixelCount) × (1664 ≤ length (now image)) × (sharedCount ≤ length (now shared)) ⌝ }
+    requires { ⌜ Shared (wordAt (now image)) (now shared) ⌝ }
+    ensures { λ r. ⌜ r ≡ alphaAt (wordAt (now (image .entry))) pixel ⌝ }
+{
+    let scales = util::word_at(image, 32);
+    let sum = base(shared, 56, pixel) as f32 + alpha_rest_at(image, pixel) as f32;
+    sum / floats::exp2(30 + scales / 4096 % 16)
+}
+
+fn k_ta_at(image: &[u8], shared: &[i32], pixel: usize) -> f32
+    requires { ⌜ (pixel < pixelCount) × (1664 ≤ length (now image)) × (sharedCount ≤ length (now shared)) ⌝ }
+    requires { ⌜ Shared (wordAt (now image)) (now shared) ⌝ }
+    ensures { λ r. ⌜ r ≡ kTaAt (wordAt (now (image .entry))) pixel ⌝ }
+{
+    let scales = util::word_at(image, 56);
+    k_ta_sum_at(image, shared, pixel) as f32 / floats::exp2(8 + scales / 16 % 16)
+}
+
+// Offsets, alpha and K_Ta, each into the start of its table.
+pub fn fill_offsets(image: &[u8], shared: &[i32], table: &mut [i32])
+    requires { ⌜ (1664 ≤ length (now image)) × (sharedCount ≤ length (now shared)) × Shared (wordAt (now image)) (now shared) ⌝ }
+    requires { ⌜ pixelCount ≤ length (now table) ⌝ }
+    ensures { λ _. ⌜ now (table .exit) ≡ filled (offsetAt (wordAt (now (image .entry)))) pixelCount (now (table .entry)) ⌝ }
+{
+    for pixel in 0..PIXELS {
+        table[pixel] = offset_at(image, shared, pixel);
+    }
+}
+
+pub fn fill_alpha(image: &[u8], shared: &[i32], table: &mut [f32])
+    requires { ⌜ (1664 ≤ length (now image)) × (sharedCount ≤ length (now shared)) × Shared (wordAt (now image)) (now shared) ⌝ }
+    requires { ⌜ pixelCount ≤ length (now table) ⌝ }
+    ensures { λ _. ⌜ now (table .exit) ≡ filled (alphaAt (wordAt (now (image .entry)))) pixelCount (now (table .entry)) ⌝ }
+{
+    for pixel in 0..PIXELS {
+        table[pixel] = alpha_at(image, shared, pixel);
+    }
+}
+
+pub fn fill_k_ta(image: &[u8], shared: &[i32], table: &mut [f32])
+    requires { ⌜ (1664 ≤ length (now image)) × (sharedCount ≤ length (now shared)) × Shared (wordAt (now image)) (now shared) ⌝ }
+    requires { ⌜ pixelCount ≤ length (now table) ⌝ }
+    ensures { λ _. ⌜ now (table .exit) ≡ filled (kTaAt (wordAt (now (image .entry)))) pixelCount (now (table .entry)) ⌝ }
+{
+    for pixel in 0..PIXELS {
+        table[pixel] = k_ta_at(image, shared, pixel);
+    }
 }

@@ -10,43 +10,7 @@ use Rattle.util.proofs.Range.{back32}
 use borrow.Author.Needs.{needs}
 use Rattle.sums640.proofs.base.Statement.{statement}
 use Rattle.sums640.proofs.base.Tie as tie
-use Rattle.sums640.proofs.base.Reads as reads
-use Rattle.sums640.proofs.base.Lts as lts
-use Rattle.sums640.proofs.sum.Reads as sum-reads
 
--- src/lib.rt:151:16
-add-sum : tie.Need-add-sum
-add-sum c = search needs
-
--- src/lib.rt:151:9
-mul-sum : tie.Need-mul-sum
-mul-sum c = search needs
-
--- src/lib.rt:151:9
-shared-slice-copy-out-sum : tie.Need-shared-slice-copy-out-sum
-shared-slice-copy-out-sum c = search needs
-
--- src/lib.rt:151:43
-add-sum-2 : tie.Need-add-sum-2
-add-sum-2 c = search needs
-
--- src/lib.rt:151:43
-add-sum-3 : tie.Need-add-sum-3
-add-sum-3 c = search needs
-
--- src/lib.rt:151:36
-mul-sum-2 : tie.Need-mul-sum-2
-mul-sum-2 c = search needs
-
--- src/lib.rt:151:36
-shared-slice-copy-out-sum-2 : tie.Need-shared-slice-copy-out-sum-2
-shared-slice-copy-out-sum-2 c = search needs
-
--- src/lib.rt:151:5
-sum-requires : tie.Need-sum-requires
-sum-requires c κs = search needs
-
--- src/lib.rt:146:1
 returns : tie.Need-returns
 returns c =
     let s = c .before .before .before in
@@ -58,12 +22,12 @@ pub base-spec : {M : Type 1} → statement M
 base-spec =
     tie.close
     (tie.spec
-    add-sum
-    mul-sum
-    shared-slice-copy-out-sum
-    add-sum-2
-    add-sum-3
-    mul-sum-2
-    shared-slice-copy-out-sum-2
-    sum-requires
+    (λ c. search needs)
+    (λ c. search needs)
+    (λ c. search needs)
+    (λ c. search needs)
+    (λ c. search needs)
+    (λ c. search needs)
+    (λ c. search needs)
+    (λ c κs. search needs)
     returns)

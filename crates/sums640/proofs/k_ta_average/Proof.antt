@@ -16,11 +16,6 @@ use Rattle.sums640.proofs.Range.{k-ta-average-mag}
 use borrow.Author.Needs.{needs}
 use Rattle.sums640.proofs.k_ta_average.Statement.{statement}
 use Rattle.sums640.proofs.k_ta_average.Tie as tie
-use Rattle.sums640.proofs.k_ta_average.Reads as reads
-use Rattle.sums640.proofs.k_ta_average.Lts as lts
-use Rattle.sums640.proofs.average_byte.Reads as average-byte-reads
-use Rattle.util.proofs.i16_from_bits.Reads as i16-from-bits-reads
-use Rattle.util.proofs.wide.Reads as wide-reads
 
 abbrev average-of : tie.After-i16-from-bits → ℤ
 average-of c = let a = c .before .before .before .before .args in averageAt (wordAt (a .image .now)) (a .entry)
@@ -33,27 +28,13 @@ bits-is c =
 small : (c : tie.After-i16-from-bits) → mag (average-of c) < 128
 small c = let a = c .before .before .before .before .args in k-ta-average-mag (wordAt (a .image .now)) (a .entry)
 
--- src/lib.rt:103:9
-average-byte-requires : tie.Need-average-byte-requires
-average-byte-requires c κs = search needs
-
--- src/lib.rt:104:25
-wide-requires : tie.Need-wide-requires
-wide-requires c κs = search needs
-
--- src/lib.rt:104:5
-i16-from-bits-requires : tie.Need-i16-from-bits-requires
-i16-from-bits-requires c κs = search needs
-
--- src/lib.rt:104:5
 cast-result : tie.Need-cast-result
 cast-result c = rw (bits-is c) (sfits-of (omega (arith, small c)))
 
--- src/lib.rt:99:1
 returns : tie.Need-returns
 returns c = rw (bits-is c, back32 (average-of c) (omega (arith, small c)))
 
 pub k-ta-average-spec : {M : Type 1} → statement M
 k-ta-average-spec =
     tie.close
-    (tie.spec average-byte-requires wide-requires i16-from-bits-requires cast-result returns)
+    (tie.spec (λ c κs. search needs) (λ c κs. search needs) (λ c κs. search needs) cast-result returns)

@@ -15,12 +15,6 @@ use Rattle.sums640.proofs.Shared as shared
 use borrow.Author.Needs.{needs}
 use Rattle.sums640.proofs.offset_at.Statement.{statement}
 use Rattle.sums640.proofs.offset_at.Tie as tie
-use Rattle.sums640.proofs.offset_at.Reads as reads
-use Rattle.sums640.proofs.offset_at.Lts as lts
-use Rattle.sums640.proofs.base.Reads as base-reads
-use Rattle.sums640.proofs.scaled.Reads as scaled-reads
-use Rattle.sums640.proofs.sum.Reads as sum-reads
-use Rattle.util.proofs.word_at.Reads as word-at-reads
 
 abbrev start : tie.After-scaled → tie.Start
 start c = c .before .before .before .before
@@ -37,31 +31,12 @@ base-is c =
     let s = start (c .before) in
     toZ-ofZ {w = w32} (record { sfits = c .base .ok }) ∙ c .base .ensures ∙ shared.base-is (shared.offsets (s .pre .1)) (s .args .pixel) (s .pre .0 .0)
 
--- src/lib.rt:159:9
-word-at-requires : tie.Need-word-at-requires
-word-at-requires c κs = search needs
-
--- src/lib.rt:160:37
-add-word-at : tie.Need-add-word-at
-add-word-at c = search needs
-
--- src/lib.rt:160:9
-word-at-requires-2 : tie.Need-word-at-requires-2
-word-at-requires-2 c κs = search needs
-
--- src/lib.rt:161:9
-scaled-requires : tie.Need-scaled-requires
-scaled-requires c κs = search needs
-
--- src/lib.rt:162:9
 base-requires : tie.Need-base-requires
 base-requires c κs = let s = c .before .before .before .before in let p = shared.offsets (s .pre .1) in ((lit≤ tt, s .pre .0 .0, s .pre .0 .2), (shared.row-small p (s .args .pixel) (s .pre .0 .0), shared.column-small p (s .args .pixel) (s .pre .0 .0)))
 
--- src/lib.rt:162:5
 sum-requires : tie.Need-sum-requires
 sum-requires c κs = let s = start (c .before) in (rw (base-is c) (omega (arith, base-mag (words s) 16 (s .args .pixel))), rw (rest-is (c .before)) (omega (arith, scaled-mag 6 (pixelWord (words s) (s .args .pixel) / 1024) (restScale (words s 16)) (lit≤ tt) (lit≤ tt) (mod-lt (words s 16) (omega arith)))))
 
--- src/lib.rt:154:1
 returns : tie.Need-returns
 unfolding offsetAt
 returns c = toZ-ofZ {w = w32} (record { sfits = c .sum .ok }) ∙ c .sum .ensures ∙ ap₂ (λ (a b : ℤ). a +ℤ b) (base-is (c .before)) (rest-is (c .before .before))
@@ -70,10 +45,10 @@ pub offset-at-spec : {M : Type 1} → statement M
 offset-at-spec =
     tie.close
     (tie.spec
-    word-at-requires
-    add-word-at
-    word-at-requires-2
-    scaled-requires
+    (λ c κs. search needs)
+    (λ c. search needs)
+    (λ c κs. search needs)
+    (λ c κs. search needs)
     base-requires
     sum-requires
     returns)

@@ -8,34 +8,15 @@ use Rattle.sums640.specs.Sums.{sharedAt}
 use borrow.Author.Needs.{needs}
 use Rattle.sums640.proofs.shared_at.Statement.{statement}
 use Rattle.sums640.proofs.shared_at.Tie as tie
-use Rattle.sums640.proofs.shared_at.Reads as reads
-use Rattle.sums640.proofs.shared_at.Lts as lts
-use Rattle.sums640.proofs.k_ta_average.Reads as k-ta-average-reads
-use Rattle.sums640.proofs.part.Reads as part-reads
 
--- src/lib.rt:125:9
-part-requires : tie.Need-part-requires
-part-requires c κs = search needs
-
--- src/lib.rt:125:9
 returns : tie.Need-returns
 unfolding sharedAt
 returns c = rw (lt-ltb _ 56 (c .before .if1 .taken)) (toZ-ofZ {w = w32} (record { sfits = c .part .ok }) ∙ c .part .ensures)
 
--- src/lib.rt:128:9
-part-requires-2 : tie.Need-part-requires-2
-part-requires-2 c κs = search needs
-
--- src/lib.rt:128:9
 returns-2 : tie.Need-returns-2
 unfolding sharedAt
 returns-2 c = rw (le-ltb _ 56 (c .before .before .if1 .left), lt-ltb _ 112 (c .before .if2 .taken)) (toZ-ofZ {w = w32} (record { sfits = c .part2 .ok }) ∙ c .part2 .ensures)
 
--- src/lib.rt:130:5
-k-ta-average-requires : tie.Need-k-ta-average-requires
-k-ta-average-requires c κs = search needs
-
--- src/lib.rt:120:1
 returns-3 : tie.Need-returns-3
 unfolding sharedAt
 returns-3 c = rw (le-ltb _ 56 (c .before .before .if1 .left), le-ltb _ 112 (c .before .if2 .left)) (toZ-ofZ {w = w32} (record { sfits = c .k-ta-average .ok }) ∙ c .k-ta-average .ensures)
@@ -43,4 +24,4 @@ returns-3 c = rw (le-ltb _ 56 (c .before .before .if1 .left), le-ltb _ 112 (c .b
 pub shared-at-spec : {M : Type 1} → statement M
 shared-at-spec =
     tie.close
-    (tie.spec part-requires returns part-requires-2 returns-2 k-ta-average-requires returns-3)
+    (tie.spec (λ c κs. search needs) returns (λ c κs. search needs) returns-2 (λ c κs. search needs) returns-3)
