@@ -9,6 +9,7 @@ use lib.ListN.{length}
 use native.Mathlib.Omega.{arith}
 use lib.Dec.{T, leb, eqb, leb→le}
 use borrow.Author.Tests.{lt-ltb, le-ltb, eqb-true}
+use Rattle.lists.proofs.Spans.{Rest, hasAll, climb}
 use Rattle.map.specs.declared.Role.{Role}
 use Rattle.map.specs.declared.Role.the-variants.{Unchecked}
 use Rattle.map.specs.Map.{cardWords, Span, upto, lookup, spans, roleOf, isChecked, checked}
@@ -70,36 +71,6 @@ beyond {w} a = past 0 spans w tt a
 pub unchecked-past : (w : ℕ) → cardWords ≤ w → checked w ≡ false
 unfolding checked
 unchecked-past w h = ap isChecked (sym (beyond h))
-
--- what a `match` leaves for its ranges: the word is none of its single numbers, the last of them first in ks
-abbrev pub Rest : List ℕ → ℕ → Type 0
-Rest [] w = Unit
-Rest (k ∷ ks) w = Rest ks w × (w ≡ k → ⊥)
-
-abbrev pub has : List ℕ → ℕ → Bool
-has [] a = false
-has (k ∷ ks) a = eqb a k || has ks a
-
-abbrev pub hasAll : List ℕ → ℕ → ℕ → Bool
-hasAll ks a zero = true
-hasAll ks a (suc n) = has ks a && hasAll ks (suc a) n
-
-either : (k a w : ℕ) (t u : Bool) → eqb a k ≡ t → (w ≡ k → ⊥) → (T u → w ≡ a → ⊥) → T (t || u) → w ≡ a → ⊥
-either k a w true u q n f t e = n (e ∙ eqb-true a k q)
-either k a w false u q n f t e = f t e
-
-free : (ks : List ℕ) (a w : ℕ) → T (has ks a) → Rest ks w → w ≡ a → ⊥
-free [] a w t r e = absurd t
-free (k ∷ ks) a w t r e = either k a w (eqb a k) (has ks a) refl (r .1) (λ u. free ks a w u (r .0)) t e
-
--- past a run of single numbers
-climb : (ks : List ℕ) (a n w : ℕ) → T (hasAll ks a n) → Rest ks w → a ≤ w → a + n ≤ w
-climb ks a zero w t r h = rw add-zero h
-climb ks a (suc n) w t r h =
-    let f : w ≡ a → ⊥ = free ks a w (both-left (has ks a) _ t) r in
-    let g : suc a ≤ w = omega (arith, add-one a) in
-    let k : suc a + n ≤ w = climb ks (suc a) n w (both-right (has ks a) _ t) r g in
-    omega (arith, add-suc a n, suc-add a n)
 
 abbrev pub keys : List ℕ
 keys = 63 ∷ 62 ∷ 61 ∷ 60 ∷ 59 ∷ 58 ∷ 52 ∷ 51 ∷ 50 ∷ 49 ∷ 46 ∷ 45 ∷ 44 ∷ 43 ∷ 42 ∷ 39 ∷ 38 ∷ 35 ∷ 34 ∷ 24 ∷ 23 ∷ 22 ∷ 21 ∷ 16 ∷ []

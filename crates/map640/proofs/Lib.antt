@@ -1,0 +1,2 @@
+-- Where a word lies in the map.
+mod Spans

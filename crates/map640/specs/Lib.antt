@@ -1,0 +1,2 @@
+-- The map of the MLX90640's card.
+pub mod Map
