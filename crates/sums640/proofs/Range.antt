@@ -12,7 +12,11 @@ use Rattle.util.specs.Fields.{signed}
 use Rattle.util.proofs.Width.{stands}
 use Rattle.util.proofs.Range.{sum-mag}
 use Rattle.mlx90640.specs.Pixels.{row, column, chessboardAt}
-use Rattle.sums640.specs.Sums.{scaled, rowScale, columnScale, restScale, coefficientAt, rowSumAt, columnAt, baseAt, pixelWord, offsetAt, averageBytes, averageAt, alphaBaseAt, alphaRestAt, kTaSumAt}
+use Rattle.map640.specs.declared.Field.{Field}
+use Rattle.map640.specs.declared.Field.the-variants.{Scales}
+use Rattle.map640.specs.Map.{wordOf}
+use Rattle.sums640.specs.Sums.{scaled, rowScale, columnScale, restScale, coefficientAt, Part, offsetPart, alphaPart, scalesOf, rowSumAt, columnAt, baseAt, pixelWord, offsetAt, averageBytes, averageAt, alphaBaseAt, alphaRestAt, kTaSumAt}
+use Rattle.sums640.specs.Inner.{nibbleAt}
 
 minus : (r : ℕ) → mag (negℤ (pos r)) ≤ r
 minus zero = omega arith
@@ -37,26 +41,30 @@ pub average-mag : (n : ℕ) → mag (signed 16 n) ≤ 32767
 average-mag n = let h = stands 16 (lit≤ tt) .range n in omega arith
 
 module _ (w : ℕ → ℕ) where
-  pub coefficient-mag : (first k scale : ℕ) → scale < 16 → mag (coefficientAt w first k scale) ≤ 1048576
+  pub coefficient-mag : (field : Field) (k scale : ℕ) → scale < 16 → mag (coefficientAt w field k scale) ≤ 1048576
   unfolding coefficientAt
-  coefficient-mag first k scale h = scaled-mag 4 _ scale (lit≤ tt) (lit≤ tt) h
+  coefficient-mag field k scale h = scaled-mag 4 _ scale (lit≤ tt) (lit≤ tt) h
 
-  pub row-sum-mag : (first k : ℕ) → mag (rowSumAt w first k) ≤ 1081344
+  pub nibble-mag : (first k scale : ℕ) → scale < 16 → mag (nibbleAt w first k scale) ≤ 1048576
+  unfolding nibbleAt
+  nibble-mag first k scale h = scaled-mag 4 _ scale (lit≤ tt) (lit≤ tt) h
+
+  pub row-sum-mag : (part : Part) (k : ℕ) → mag (rowSumAt w part k) ≤ 1081344
   unfolding rowSumAt
-  row-sum-mag first k = sum-mag 32767 1048576 1081344 (signed 16 (w (first + 1))) (coefficientAt w (first + 2) k (rowScale (w first))) (omega arith) (average-mag (w (first + 1))) (coefficient-mag (first + 2) k _ (small (w first / 256)))
+  row-sum-mag part k = sum-mag 32767 1048576 1081344 (signed 16 (w (wordOf (part .average) 0))) (coefficientAt w (part .rows) k (rowScale (scalesOf w part))) (omega arith) (average-mag (w (wordOf (part .average) 0))) (coefficient-mag (part .rows) k _ (small (scalesOf w part / 256)))
 
-  pub column-mag : (first k : ℕ) → mag (columnAt w first k) ≤ 1048576
+  pub column-mag : (part : Part) (k : ℕ) → mag (columnAt w part k) ≤ 1048576
   unfolding columnAt
-  column-mag first k = coefficient-mag (first + 8) k _ (small (w first / 16))
+  column-mag part k = coefficient-mag (part .columns) k _ (small (scalesOf w part / 16))
 
-  pub base-mag : (first pixel : ℕ) → mag (baseAt w first pixel) ≤ 2129921
+  pub base-mag : (part : Part) (pixel : ℕ) → mag (baseAt w part pixel) ≤ 2129921
   unfolding baseAt
-  base-mag first pixel = sum-mag 1081344 1048576 2129921 (rowSumAt w first (row pixel)) (columnAt w first (column pixel)) (omega arith) (row-sum-mag first (row pixel)) (column-mag first (column pixel))
+  base-mag part pixel = sum-mag 1081344 1048576 2129921 (rowSumAt w part (row pixel)) (columnAt w part (column pixel)) (omega arith) (row-sum-mag part (row pixel)) (column-mag part (column pixel))
 
   pub offset-mag : (pixel : ℕ) → mag (offsetAt w pixel) ≤ 3178498
   unfolding offsetAt
   offset-mag pixel =
-      sum-mag 2129921 1048576 3178498 (baseAt w 16 pixel) (scaled 6 (pixelWord w pixel / 1024) (restScale (w 16))) (omega arith) (base-mag 16 pixel) (scaled-mag 6 _ _ (lit≤ tt) (lit≤ tt) (small (w 16)))
+      sum-mag 2129921 1048576 3178498 (baseAt w offsetPart pixel) (scaled 6 (pixelWord w pixel / 1024) (restScale (scalesOf w offsetPart))) (omega arith) (base-mag offsetPart pixel) (scaled-mag 6 _ _ (lit≤ tt) (lit≤ tt) (small (scalesOf w offsetPart)))
 
   pub k-ta-average-mag : (entry : ℕ) → mag (averageAt w entry) < 128
   unfolding averageAt
@@ -64,16 +72,16 @@ module _ (w : ℕ → ℕ) where
 
   pub alpha-base-mag : (pixel : ℕ) → mag (alphaBaseAt w pixel) ≤ 2129921
   unfolding alphaBaseAt
-  alpha-base-mag pixel = base-mag 32 pixel
+  alpha-base-mag pixel = base-mag alphaPart pixel
 
   pub alpha-rest-mag : (pixel : ℕ) → mag (alphaRestAt w pixel) ≤ 1048576
   unfolding alphaRestAt
-  alpha-rest-mag pixel = scaled-mag 6 _ _ (lit≤ tt) (lit≤ tt) (small (w 32))
+  alpha-rest-mag pixel = scaled-mag 6 _ _ (lit≤ tt) (lit≤ tt) (small (scalesOf w alphaPart))
 
   pub k-ta-sum-mag : (pixel : ℕ) → mag (kTaSumAt w pixel) ≤ 1048705
   unfolding kTaSumAt
   k-ta-sum-mag pixel =
-      sum-mag 128 1048576 1048705 (averageAt w (chessboardAt pixel)) (scaled 3 (pixelWord w pixel / 2) (restScale (w 56))) (omega arith) (let h = k-ta-average-mag (chessboardAt pixel) in omega arith) (scaled-mag 3 _ _ (lit≤ tt) (lit≤ tt) (small (w 56)))
+      sum-mag 128 1048576 1048705 (averageAt w (chessboardAt pixel)) (scaled 3 (pixelWord w pixel / 2) (restScale (w (wordOf Scales 0)))) (omega arith) (let h = k-ta-average-mag (chessboardAt pixel) in omega arith) (scaled-mag 3 _ _ (lit≤ tt) (lit≤ tt) (small (w (wordOf Scales 0))))
 
 -- an f32 holds it
 pub held : (z : ℤ) → mag z < 16777216 → T (inFloat binary32 z)

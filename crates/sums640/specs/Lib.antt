@@ -1,2 +1,3 @@
--- The whole numbers of the MLX90640's pixels.
+-- The whole numbers of the MLX90640's pixels. Inner is for inner functions only.
 pub mod Sums
+pub mod Inner

@@ -8,7 +8,8 @@ ghost use Rattle.floats.specs.Floats.{real, over};
 ghost use Rattle.lists.specs.Written.{filled};
 ghost use Rattle.util.specs.Words.{wordAt};
 ghost use Rattle.util.specs.Fields.{signed};
-ghost use Rattle.sums640.specs.Sums.{pixelCount, sharedCount, scaled, coefficientAt, rowSumAt, columnAt, averageBytes, averageAt, partAt, sharedAt, Shared, baseAt, offsetAt, alphaBaseAt, alphaRestAt, kTaSumAt, alphaAt, kTaAt, outsideAt, firstOutside};
+ghost use Rattle.sums640.specs.Sums.{pixelCount, scaled, averageBytes, averageAt, offsetAt, alphaRestAt, kTaSumAt, alphaAt, kTaAt, outsideAt, firstOutside};
+ghost use Rattle.sums640.specs.Inner.{nibbleAt, rowFrom, columnFrom, partFrom, sharedCount, sharedAt, Shared};
 
 pub const PIXELS: usize = 768;
 
@@ -48,7 +49,7 @@ fn sum(a: i32, b: i32) -> i32
 // Coefficient `index` of the words from first on, times 2^scale.
 fn coefficient(image: &[u8], first: usize, index: usize, scale: u16) -> i32
     requires { ⌜ (first + index / 4 < 832) × (1664 ≤ length (now image)) × (scale < 16) ⌝ }
-    ensures { λ r. ⌜ r ≡ coefficientAt (wordAt (now (image .entry))) first index scale ⌝ }
+    ensures { λ r. ⌜ r ≡ nibbleAt (wordAt (now (image .entry))) first index scale ⌝ }
 {
     let word = util::word_at(image, first + index / 4);
     scaled(from_nibble(word, index % 4), 4, scale)
@@ -66,7 +67,7 @@ fn average(image: &[u8], word: usize) -> i32
 // Average + row, from the word of scales on.
 fn row_sum(image: &[u8], first: usize, row: usize) -> i32
     requires { ⌜ (first ≤ 32) × (row < 24) × (1664 ≤ length (now image)) ⌝ }
-    ensures { λ r. ⌜ r ≡ rowSumAt (wordAt (now (image .entry))) first row ⌝ }
+    ensures { λ r. ⌜ r ≡ rowFrom (wordAt (now (image .entry))) first row ⌝ }
 {
     let scales = util::word_at(image, first);
     sum(
@@ -77,7 +78,7 @@ fn row_sum(image: &[u8], first: usize, row: usize) -> i32
 
 fn column(image: &[u8], first: usize, column: usize) -> i32
     requires { ⌜ (first ≤ 32) × (column < 32) × (1664 ≤ length (now image)) ⌝ }
-    ensures { λ r. ⌜ r ≡ columnAt (wordAt (now (image .entry))) first column ⌝ }
+    ensures { λ r. ⌜ r ≡ columnFrom (wordAt (now (image .entry))) first column ⌝ }
 {
     let scales = util::word_at(image, first);
     coefficient(image, first + 8, column, scales / 16 % 16)
@@ -89,10 +90,10 @@ fn average_byte(image: &[u8], entry: usize) -> u16
     ensures { λ r. ⌜ r ≡ getD (averageBytes (wordAt (now (image .entry)))) entry 0 ⌝ }
 {
     match entry {
-        0 => util::word_at(image, 54) / 256,
-        1 => util::word_at(image, 54),
-        2 => util::word_at(image, 55) / 256,
-        _ => util::word_at(image, 55),
+        0 => util::word_at(image, map640::K_TA_AVERAGE) / 256,
+        1 => util::word_at(image, map640::K_TA_AVERAGE),
+        2 => util::word_at(image, map640::K_TA_AVERAGE + 1) / 256,
+        _ => util::word_at(image, map640::K_TA_AVERAGE + 1),
     }
 }
 
@@ -110,7 +111,7 @@ fn k_ta_average(image: &[u8], entry: usize) -> i32
 // One of 24 rows and 32 columns, from the word of scales on.
 fn part(image: &[u8], first: usize, index: usize) -> i32
     requires { ⌜ (first ≤ 32) × (index < 56) × (1664 ≤ length (now image)) ⌝ }
-    ensures { λ r. ⌜ r ≡ partAt (wordAt (now (image .entry))) first index ⌝ }
+    ensures { λ r. ⌜ r ≡ partFrom (wordAt (now (image .entry))) first index ⌝ }
 {
     if index < 24 {
         return row_sum(image, first, index);
@@ -123,10 +124,10 @@ fn shared_at(image: &[u8], index: usize) -> i32
     ensures { λ r. ⌜ r ≡ sharedAt (wordAt (now (image .entry))) index ⌝ }
 {
     if index < 56 {
-        return part(image, 16, index);
+        return part(image, map640::OFFSET_SCALES, index);
     }
     if index < 112 {
-        return part(image, 32, index - 56);
+        return part(image, map640::ALPHA_SCALES, index - 56);
     }
     k_ta_average(image, index - 112)
 }
@@ -157,8 +158,8 @@ fn offset_at(image: &[u8], shared: &[i32], pixel: usize) -> i32
     requires { ⌜ Shared (wordAt (now image)) (now shared) ⌝ }
     ensures { λ r. ⌜ r ≡ offsetAt (wordAt (now (image .entry))) pixel ⌝ }
 {
-    let scales = util::word_at(image, 16);
-    let word = util::word_at(image, 64 + pixel);
+    let scales = util::word_at(image, map640::OFFSET_SCALES);
+    let word = util::word_at(image, map640::PIXEL + pixel);
     let rest = scaled(word / 1024, 6, scales % 16);
     sum(base(shared, 0, pixel), rest)
 }
@@ -167,8 +168,8 @@ fn alpha_rest_at(image: &[u8], pixel: usize) -> i32
     requires { ⌜ (pixel < pixelCount) × (1664 ≤ length (now image)) ⌝ }
     ensures { λ r. ⌜ r ≡ alphaRestAt (wordAt (now (image .entry))) pixel ⌝ }
 {
-    let scales = util::word_at(image, 32);
-    let word = util::word_at(image, 64 + pixel);
+    let scales = util::word_at(image, map640::ALPHA_SCALES);
+    let word = util::word_at(image, map640::PIXEL + pixel);
     scaled(word / 16, 6, scales % 16)
 }
 
@@ -177,8 +178,8 @@ fn k_ta_sum_at(image: &[u8], shared: &[i32], pixel: usize) -> i32
     requires { ⌜ Shared (wordAt (now image)) (now shared) ⌝ }
     ensures { λ r. ⌜ r ≡ kTaSumAt (wordAt (now (image .entry))) pixel ⌝ }
 {
-    let scales = util::word_at(image, 56);
-    let word = util::word_at(image, 64 + pixel);
+    let scales = util::word_at(image, map640::SCALES);
+    let word = util::word_at(image, map640::PIXEL + pixel);
     let rest = scaled(word / 2, 3, scales % 16);
     sum(shared[112 + mlx90640::chessboard_at(pixel)], rest)
 }
@@ -223,7 +224,7 @@ fn alpha_at(image: &[u8], shared: &[i32], pixel: usize) -> f32
     requires { ⌜ Shared (wordAt (now image)) (now shared) ⌝ }
     ensures { λ r. ⌜ r ≡ alphaAt (wordAt (now (image .entry))) pixel ⌝ }
 {
-    let scales = util::word_at(image, 32);
+    let scales = util::word_at(image, map640::ALPHA_SCALES);
     let sum = base(shared, 56, pixel) as f32 + alpha_rest_at(image, pixel) as f32;
     sum / floats::exp2(30 + scales / 4096 % 16)
 }
@@ -233,7 +234,7 @@ fn k_ta_at(image: &[u8], shared: &[i32], pixel: usize) -> f32
     requires { ⌜ Shared (wordAt (now image)) (now shared) ⌝ }
     ensures { λ r. ⌜ r ≡ kTaAt (wordAt (now (image .entry))) pixel ⌝ }
 {
-    let scales = util::word_at(image, 56);
+    let scales = util::word_at(image, map640::SCALES);
     k_ta_sum_at(image, shared, pixel) as f32 / floats::exp2(8 + scales / 16 % 16)
 }
 

@@ -4,12 +4,13 @@ use mathlib.Core.Path.{_≡_, ap, ap₂, _∙_}
 use Prim.Native.Nat.{ℕ, _*_, _%_, _/_, _^_}
 use mir.Facts.{toZ-ofZ}
 use mir.Syntax.{w32}
-use Rattle.sums640.specs.Sums.{scaled, coefficientAt}
+use Rattle.sums640.specs.Sums.{scaled}
+use Rattle.sums640.specs.Inner.{nibbleAt}
 use Rattle.sums640.proofs.coefficient.Statement.{statement}
 use Rattle.sums640.proofs.coefficient.Tie as tie
 
 returns : tie.Need-returns
-unfolding coefficientAt
+unfolding nibbleAt
 returns c =
     let n = c .before in
     let w = n .before in

@@ -8,7 +8,7 @@ use mir.Facts.{toZ-ofZ}
 use Rattle.lists.proofs.Each as each
 use Rattle.lists.proofs.Each.{Entering}
 use Rattle.util.specs.Words.{wordAt}
-use Rattle.sums640.specs.Sums.{sharedCount, sharedAt}
+use Rattle.sums640.specs.Inner.{sharedCount, sharedAt}
 use Rattle.sums640.proofs.fill_shared.Statement.{statement}
 use Rattle.sums640.proofs.fill_shared.Tie as tie
 

@@ -4,7 +4,7 @@ use native.Mathlib.Omega.{arith}
 use mir.Syntax.{w32}
 use mir.Facts.{toZ-ofZ}
 use borrow.Author.Tests.{lt-ltb, le-ltb}
-use Rattle.sums640.specs.Sums.{sharedAt}
+use Rattle.sums640.specs.Inner.{sharedAt}
 use borrow.Author.Needs.{needs}
 use Rattle.sums640.proofs.shared_at.Statement.{statement}
 use Rattle.sums640.proofs.shared_at.Tie as tie

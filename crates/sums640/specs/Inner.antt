@@ -1,0 +1,33 @@
+-- For inner functions only: what rows, columns and the chessboard give to many pixels, worked out once for a card: 24 rows and 32 columns of the
+-- offsets, the same of alpha, and four averages of K_Ta. Rows and columns are read from the word of scales on. Assumes nothing.
+use Prim.Native.Nat.{ℕ, _+_, _-_, _*_, _/_, _%_, _^_}
+use mathlib.Core.Path.{_≡_}
+use mathlib.Core.List.{List}
+use lib.Dec.{ltb}
+use lib.IntN.{ℤ, pos, _+ℤ_}
+use Rattle.lists.specs.Each.{Each}
+use Rattle.lists.specs.Pick.{pick}
+use Rattle.util.specs.Fields.{signed}
+use Rattle.sums640.specs.Sums.{scaled, rowScale, columnScale, averageAt}
+
+unfoldable pub nibbleAt : (ℕ → ℕ) → ℕ → ℕ → ℕ → ℤ
+nibbleAt w first k scale = scaled 4 (w (first + k / 4) / 2 ^ (4 * (k % 4))) scale
+
+unfoldable pub rowFrom : (ℕ → ℕ) → ℕ → ℕ → ℤ
+rowFrom w first k = signed 16 (w (first + 1)) +ℤ nibbleAt w (first + 2) k (rowScale (w first))
+
+unfoldable pub columnFrom : (ℕ → ℕ) → ℕ → ℕ → ℤ
+columnFrom w first k = nibbleAt w (first + 8) k (columnScale (w first))
+
+abbrev pub partFrom : (ℕ → ℕ) → ℕ → ℕ → ℤ
+partFrom w first k = pick (ltb k 24) (rowFrom w first k) (columnFrom w first (k - 24))
+
+abbrev pub sharedCount : ℕ
+sharedCount = 116
+
+unfoldable pub sharedAt : (ℕ → ℕ) → ℕ → ℤ
+sharedAt w k = pick (ltb k 56) (partFrom w 16 k) (pick (ltb k 112) (partFrom w 32 (k - 56)) (averageAt w (k - 112)))
+
+-- a list that has them
+abbrev pub Shared : (ℕ → ℕ) → List ℤ → Type 0
+Shared w list = Each (λ k z. z ≡ sharedAt w k) (pos 0) list sharedCount
