@@ -1,14 +1,12 @@
 -- Where the numbers that many pixels share stand in their list, and the sum of a row's and a column's. Assumes nothing.
 use Prim.Native.Nat.{ℕ, _+_, _-_, _/_, _%_, _<_, _≤_}
-use mathlib.Core.Path.{_≡_, refl, sym, ap, ap₂, _∙_}
+use mathlib.Core.Path.{_≡_, refl, ap, ap₂, _∙_}
 use mathlib.Core.List.{List}
-use native.Mathlib.Nat.{mod-lt}
 use native.Mathlib.Omega.{arith}
 use lib.IntN.{ℤ, pos, _+ℤ_}
 use lib.ListN.{getD}
 use lib.Signed.{mag}
 use borrow.Author.Tests.{lt-ltb, le-ltb}
-use Rattle.lists.specs.Each.{Each}
 use Rattle.sums640.specs.Sums.{pixelCount, coefficientAt, Part, offsetPart, alphaPart, rowSumAt, columnAt, baseAt, averageAt}
 use Rattle.sums640.specs.Inner.{nibbleAt, rowFrom, columnFrom, partFrom, sharedAt, Shared}
 use Rattle.sums640.proofs.Range.{row-sum-mag, column-mag}
