@@ -1,0 +1,2 @@
+-- The numbers of the MLX90640's record.
+pub mod Record
