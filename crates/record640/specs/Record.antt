@@ -4,16 +4,20 @@ use Prim.Native.Nat.{ℕ, _+_, _*_, _/_, _%_, _^_}
 use mathlib.Core.List.{List, [], _∷_}
 use lib.Dec.{eqb}
 use lib.Ieee.{Float}
+use lib.ListN.{replicate}
 use lib.IntN.{ℤ, pos, _+ℤ_, _-ℤ_, _*ℤ_}
 use Rattle.lists.specs.Pick.{pick}
-use Rattle.floats.specs.Constants.{one}
+use Rattle.floats.specs.Constants.{one, plusZero}
 use Rattle.floats.specs.Floats.{real, powerOfTwo, over, _⊕_, _⊗_}
 use Rattle.util.specs.Fields.{signed, minus}
 use Rattle.camera.specs.declared.Gradient.{Gradient}
 use Rattle.camera.specs.declared.Gradient.the-variants.{Coefficient, Missing}
 use Rattle.map640.specs.declared.Field.{Field}
-use Rattle.map640.specs.declared.Field.the-variants.{OffsetScales, AlphaScales, Gain, VPtat25, Ptat, VDd, KV, Scales, AlphaCp, OffsetCp, KCp, KSTa, KSTo, Corners}
+use Rattle.map640.specs.declared.Field.the-variants.{OffsetScales, AlphaScales, Gain, VPtat25, Ptat, VDd, KV, Access, Scales, AlphaCp, OffsetCp, KCp, KSTa, KSTo, Corners}
 use Rattle.map640.specs.Map.{wordOf}
+use Rattle.mlx90640.specs.Corrections.{correctionsOf, patternOf}
+use Rattle.ranges.specs.Coefficients.{coefficientAt}
+use Rattle.record640.specs.declared.Calibration.{Calibration}
 
 abbrev word : (ℕ → ℕ) → Field → ℕ
 word w field = w (wordOf field 0)
@@ -101,3 +105,63 @@ unfoldable pub cornersOf : ℕ → List ℤ
 cornersOf n =
     let second = n / 2 ^ 4 % 16 * stepOf n in
     minus 40 ∷ pos 0 ∷ pos second ∷ pos (n / 2 ^ 8 % 16 * stepOf n + second) ∷ []
+
+unfoldable pub cornersAt : (ℕ → ℕ) → List ℤ
+cornersAt w = cornersOf (word w Corners)
+
+-- those of any camera, over four ranges
+unfoldable pub coefficientsOf : (ℕ → ℕ) → ℕ → List Float
+coefficientsOf w b =
+    let at : ℕ → Float = coefficientAt (cornersAt w) (kSTos w) b in
+    at 0 ∷ at 1 ∷ at 2 ∷ at 3 ∷ []
+
+-- ---- the record
+
+unfoldable pub calibrationOf : (ℕ → ℕ) → ℕ → Calibration
+calibrationOf w b = record {
+  «k_v_dd» = kVDdOf (word w VDd);
+  «v_dd_25» = vDd25Of (word w VDd);
+  resolution = resolutionOf (word w Scales);
+  «k_v_ptat» = kVPtat w;
+  «k_t_ptat» = kTPtat w;
+  «v_ptat_25» = wholeOf (word w VPtat25);
+  «alpha_ptat» = alphaPtatOf (word w OffsetScales);
+  gain = wholeOf (word w Gain);
+  «k_s_ta» = kSTa w;
+  «corner_temperatures» = cornersAt w;
+  «k_s_to» = kSTos w;
+  «range_coefficients» = coefficientsOf w b;
+  «alpha_cp» = alphaCps w;
+  «offset_reference_cp» = offsetCpsOf (word w OffsetCp);
+  «k_v_cp» = kVCp w;
+  «k_ta_cp» = kTaCp w;
+  «temperature_gradient_coefficient» = gradientOf (word w KSTa);
+  «k_v» = kVs w;
+  «access_pattern» = patternOf (correctionsOf (word w Access));
+  «access_cp» = correctionsOf (word w Access) .«chess_1»;
+}
+
+-- the record of a refusal: every number 0, and no gradient
+unfoldable pub noCalibration : Calibration
+noCalibration = record {
+  «k_v_dd» = pos 0;
+  «v_dd_25» = pos 0;
+  resolution = 0;
+  «k_v_ptat» = plusZero;
+  «k_t_ptat» = plusZero;
+  «v_ptat_25» = plusZero;
+  «alpha_ptat» = plusZero;
+  gain = plusZero;
+  «k_s_ta» = plusZero;
+  «corner_temperatures» = replicate 4 (pos 0);
+  «k_s_to» = replicate 4 plusZero;
+  «range_coefficients» = replicate 4 plusZero;
+  «alpha_cp» = replicate 2 plusZero;
+  «offset_reference_cp» = replicate 2 (pos 0);
+  «k_v_cp» = plusZero;
+  «k_ta_cp» = plusZero;
+  «temperature_gradient_coefficient» = Missing;
+  «k_v» = replicate 4 plusZero;
+  «access_pattern» = replicate 6 plusZero;
+  «access_cp» = plusZero;
+}
