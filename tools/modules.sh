@@ -49,16 +49,20 @@ exporting() {
     done
 }
 
-# prove LOG COUNT WORD..: rt with these words, which goes through COUNT crates. Each that it proves is told as it comes, an unchanged one is passed; what rt says
-# is kept in LOG.
+# prove LOG COUNT WORD..: rt with these words, which goes through COUNT crates; what rt says is kept in LOG.
 prove() {
     local log=$1 count=$2
     shift 2
-    if ! rt "$@" 2>&1 | tee "$log" | awk -v by="${0##*/}" -v count="$count" '
-        /^rt: [a-z0-9_]+ proved \(/ { at++ }
-        /^rt: [a-z0-9_]+ proved \([0-9]+ s\)/ { print by ": " at " of " count ": " $2 " proved " $4 " s)"; fflush() }' >&2; then
-        failed "$log" "rt $*"
-    fi
+    rt "$@" 2>&1 | tee "$log" | tell_proved "$count" || failed "$log" "rt $*"
+}
+
+# tell_proved COUNT: tells each crate that rt proves, as it comes; one that stands is counted alone. (By read, since an awk may wait until its input is long.)
+tell_proved() {
+    local at=0 line
+    while IFS= read -r line; do
+        case $line in "rt: "*" proved ("*) at=$((at + 1)) ;; *) continue ;; esac
+        case $line in *' s)') printf '%s: %d of %d: %s\n' "${0##*/}" "$at" "$1" "${line#rt: }" >&2 ;; esac
+    done
 }
 
 # failed LOG WHAT: stops, with the last lines of what was tried.
