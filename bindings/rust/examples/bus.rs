@@ -1,5 +1,5 @@
 //! A card in pieces and frames, read through a closure in place of a bus, with the camera's addresses. Words come big-endian, as from the device.
-//!   cargo run --offline --example bus -- ../../cards/sound.bin
+//!   cargo run --offline --example bus -- cards/sound.bin
 use loamchalice::{Calibration, RamData, Reader, Refusal, Subpage};
 
 const CARD: u16 = 0x2400; // 832 words
@@ -44,7 +44,7 @@ fn read_frame(read: &mut impl FnMut(u16, &mut [u8]), subpage: Subpage) -> (RamDa
 }
 
 fn main() -> Result<(), Box<dyn std::error::Error>> {
-    let path = std::env::args().nth(1).unwrap_or_else(|| "../../cards/sound.bin".to_string());
+    let path = std::env::args().nth(1).unwrap_or_else(|| "cards/sound.bin".to_string());
     let card = std::fs::read(path)?;
     // Stands for the device: the card as it is, a room in RAM.
     let mut read = |address: u16, bytes: &mut [u8]| {

@@ -1,6 +1,6 @@
 //! The lamp box's loop: a card, frames, a limit. The lamp goes down on any warning, on any refusal, a short frame among them, on any lost pixel, and where a
 //! pixel that counts is not below the limit. The status is 1 once the lamp is down, for whatever reason, and 0 if it is still on after the last frame.
-//!   cargo run --offline --example lamp -- ../../cards/sound.bin
+//!   cargo run --offline --example lamp -- cards/sound.bin
 use loamchalice::{environment_is_default, Calibration, Filter, RamData, Refusal, Settings, Subpage, ALL_PIXELS};
 use std::process::ExitCode;
 
@@ -83,7 +83,7 @@ fn watch(path: &str) -> Option<String> {
 }
 
 fn main() -> ExitCode {
-    let path = std::env::args().nth(1).unwrap_or_else(|| "../../cards/sound.bin".to_string());
+    let path = std::env::args().nth(1).unwrap_or_else(|| "cards/sound.bin".to_string());
     match watch(&path) {
         Some(why) => {
             println!("lamp down: {why}");

@@ -25,17 +25,25 @@ fn answered(answer: border::Step) -> Result<Burnt, Refusal> {
 }
 
 /// The next step from a present image to a wanted one, or None if it is reached: the first word that differs becomes zero, or, where it is zero,
-/// what is wanted. Refusals 1 and 11.
+/// what is wanted.
+///
+/// # Errors
+///
+/// [`Refusal::ShortImage`] (1), [`Refusal::UncheckedWord`] (11).
 pub fn next_step(present: &[u8], wanted: &[u8]) -> Result<Option<Step>, Refusal> {
     answered(border::next_step(present, wanted)).map(|next| next.step)
 }
 
-/// Does the next step on the present image. At most 1,628 calls reach the wanted one; after a cut go on from what is found. Refusals 1 and 11.
+/// Does the next step on the present image. At most 1,628 calls reach the wanted one; after a cut go on from what is found.
+///
+/// # Errors
+///
+/// [`Refusal::ShortImage`] (1), [`Refusal::UncheckedWord`] (11).
 ///
 /// ```
 /// use loamchalice::{burn, next_step, Calibration};
-/// let wanted = include_bytes!("../../../cards/sound.bin");
-/// let mut card = *include_bytes!("../../../cards/half.bin");
+/// let wanted = include_bytes!("../cards/sound.bin");
+/// let mut card = *include_bytes!("../cards/half.bin");
 /// assert!(Calibration::from_data(&card).is_ok()); // it loads, and is half-burnt
 /// let mut steps = 0;
 /// while next_step(&card, wanted)?.is_some() {

@@ -5,9 +5,9 @@ use crate::{border, Refusal};
 /// ```
 /// use loamchalice::Card;
 ///
-/// let image = include_bytes!("../../../cards/mended.bin"); // eight words have a flipped bit
+/// let image = include_bytes!("../cards/mended.bin"); // eight words have a flipped bit
 /// let mut card = Card::words(image)?;
-/// assert_eq!(card.write()?, *include_bytes!("../../../cards/sound.bin"));
+/// assert_eq!(card.write()?, *include_bytes!("../cards/sound.bin"));
 /// card.data[0] = 2 << 5; // word 16: offset scale 2
 /// assert_eq!(Card::words(&card.write()?)?, card);
 /// # Ok::<(), loamchalice::Refusal>(())
@@ -21,7 +21,11 @@ pub struct Card {
 }
 
 impl Card {
-    /// The words of an image: 1,664 bytes, what follows is ignored. Refusals 1, 3.
+    /// The words of an image: 1,664 bytes, what follows is ignored.
+    ///
+    /// # Errors
+    ///
+    /// [`Refusal::ShortImage`] (1), [`Refusal::DamagedWord`] (3).
     ///
     /// ```
     /// use loamchalice::{Card, Refusal};
@@ -33,7 +37,11 @@ impl Card {
         Refusal::of(answer.number, answer.place, answer.value).map_or(Ok(card), Err)
     }
 
-    /// The image of these words. Refusal 9.
+    /// The image of these words.
+    ///
+    /// # Errors
+    ///
+    /// [`Refusal::ListedDataTooLarge`] (9).
     ///
     /// ```
     /// use loamchalice::{Card, Refusal};

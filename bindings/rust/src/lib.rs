@@ -4,7 +4,7 @@
 //! ```
 //! use loamchalice::{Calibration, RamData, Settings, Subpage, ALL_PIXELS};
 //!
-//! let card = include_bytes!("../../../cards/sound.bin");
+//! let card = include_bytes!("../cards/sound.bin");
 //! let camera = Calibration::from_data(card)?;
 //! let ram = RamData { t_a_v_be: 19442, t_a_ptat: 1711, v_dd_pixel: -13115, gain: 6391, compensation_pixel: -105 };
 //! let pixels = [0xFD, 0x94].repeat(192); // each reads -620
@@ -21,7 +21,7 @@
 //! A lamp box does not run where [`environment_is_default`] is false, since the calls assume the default floating-point environment (round to nearest, no flush
 //! to zero), or where [`Settings::warning`] or [`Calibration::gain_warning`] tells something; and it drops the lamp on any [`Refusal`] and any lost pixel.
 #![no_std]
-#![deny(missing_docs)]
+#![deny(missing_docs, clippy::missing_errors_doc)]
 mod border;
 mod burning;
 mod card;
@@ -32,6 +32,8 @@ mod reader;
 mod refusal;
 mod scrubbing;
 mod settings;
+#[cfg(loamchalice_dist)]
+mod shipped;
 
 pub use burning::{burn, next_step, Burnt, Step};
 pub use card::Card;
@@ -83,7 +85,11 @@ pub struct Frame {
     pub lost: usize,
 }
 
-/// The chip word of 11 bits of data. Refusal 9.
+/// The chip word of 11 bits of data.
+///
+/// # Errors
+///
+/// [`Refusal::DataTooLarge`] (9).
 ///
 /// ```
 /// assert_eq!(loamchalice::add_checksum(3), Ok(0x3003));
@@ -117,7 +123,11 @@ impl Checked {
     }
 }
 
-/// Checks a chip word. Refusal 3.
+/// Checks a chip word.
+///
+/// # Errors
+///
+/// [`Refusal::DamagedWord`] (3), as word 0.
 ///
 /// ```
 /// use loamchalice::{check_word, Checked, Refusal};
@@ -131,7 +141,11 @@ pub fn check_word(word: u16) -> Result<Checked, Refusal> {
     Refusal::of(answer.number, answer.place, answer.value).map_or(Ok(checked), Err)
 }
 
-/// The data of a chip word, clean or mended. Refusal 3.
+/// The data of a chip word, clean or mended.
+///
+/// # Errors
+///
+/// [`Refusal::DamagedWord`] (3), as word 0.
 ///
 /// ```
 /// assert_eq!(loamchalice::validate_checksum(0x9800), Ok(1));
@@ -144,7 +158,7 @@ pub fn validate_checksum(word: u16) -> Result<u16, Refusal> {
 ///
 /// ```
 /// use loamchalice::Calibration;
-/// let mended = Calibration::from_data(include_bytes!("../../../cards/mended.bin"))?.mended();
+/// let mended = Calibration::from_data(include_bytes!("../cards/mended.bin"))?.mended();
 /// assert_eq!((mended.count, mended.last), (8, Some(831)));
 /// assert_eq!(mended.to_string(), "8 words mended, the last is 831");
 /// # Ok::<(), loamchalice::Refusal>(())
@@ -170,7 +184,7 @@ impl core::fmt::Display for Mended {
 /// The 64 bytes of a row of alpha, 0 to 5, as a part of the image; none for a higher row or an image below 1,664 bytes.
 ///
 /// ```
-/// let card = include_bytes!("../../../cards/sound.bin");
+/// let card = include_bytes!("../cards/sound.bin");
 /// assert_eq!(loamchalice::alpha_row(card, 1), &card[576..640]);
 /// assert!(loamchalice::alpha_row(card, 6).is_empty());
 /// ```
@@ -229,7 +243,11 @@ pub struct Calibration {
 }
 
 impl Calibration {
-    /// Loads a card's image with the camera's [`BASIC_RANGE`]: 1,664 bytes, what follows is ignored. Refusals 1, 3, 4.
+    /// Loads a card's image with the camera's [`BASIC_RANGE`]: 1,664 bytes, what follows is ignored.
+    ///
+    /// # Errors
+    ///
+    /// [`Refusal::ShortImage`] (1), [`Refusal::DamagedWord`] (3), [`Refusal::OffsetScale`] (4).
     ///
     /// ```
     /// use loamchalice::{Calibration, Refusal};
@@ -240,11 +258,15 @@ impl Calibration {
         Self::from_data_in(image, BASIC_RANGE)
     }
 
-    /// The same with another basic range, 0 to 7, which the range coefficients begin at. Refusals 1, 3, 4, 6, 13.
+    /// The same with another basic range, 0 to 7, which the range coefficients begin at.
+    ///
+    /// # Errors
+    ///
+    /// [`Refusal::ShortImage`] (1), [`Refusal::DamagedWord`] (3), [`Refusal::OffsetScale`] (4), [`Refusal::BasicRange`] (6), [`Refusal::ZeroFactor`] (13).
     ///
     /// ```
     /// use loamchalice::{Calibration, Refusal};
-    /// let card = include_bytes!("../../../cards/sound.bin");
+    /// let card = include_bytes!("../cards/sound.bin");
     /// assert_eq!(Calibration::from_data_in(card, 3)?.range_coefficients()[3], 1.0);
     /// assert_eq!(Calibration::from_data_in(card, 8).err(), Some(Refusal::BasicRange { range: 8 }));
     /// # Ok::<(), Refusal>(())
@@ -287,7 +309,7 @@ impl Calibration {
     ///
     /// ```
     /// use loamchalice::Calibration;
-    /// let camera = Calibration::from_data_in(include_bytes!("../../../cards/sound.bin"), 3)?;
+    /// let camera = Calibration::from_data_in(include_bytes!("../cards/sound.bin"), 3)?;
     /// let settings = camera.settings(2);
     /// assert_eq!(settings.emissivity, camera.emissivity());
     /// assert_eq!(settings.basic_range, 3);
@@ -305,9 +327,9 @@ impl Calibration {
     /// ```
     /// use loamchalice::{Calibration, RamData};
     /// let ram = RamData { t_a_v_be: 19442, t_a_ptat: 1711, v_dd_pixel: -13115, gain: 6391, compensation_pixel: -105 };
-    /// let sound = Calibration::from_data(include_bytes!("../../../cards/sound.bin"))?; // a gain of 6383
+    /// let sound = Calibration::from_data(include_bytes!("../cards/sound.bin"))?; // a gain of 6383
     /// assert_eq!(sound.gain_warning(ram), None);
-    /// let half = Calibration::from_data(include_bytes!("../../../cards/half.bin"))?; // a gain of 16
+    /// let half = Calibration::from_data(include_bytes!("../cards/half.bin"))?; // a gain of 16
     /// assert!(half.gain_warning(ram).is_some());
     /// # Ok::<(), loamchalice::Refusal>(())
     /// ```
@@ -429,8 +451,11 @@ impl Calibration {
         &self.tables.alpha
     }
 
-    /// Pixels, two bytes each and the upper first, to infrared numbers. A pixel whose mask is false stays as it was. Refusals 10, 7, 8; arrays of
-    /// 384 bytes, 192 bools and 192 numbers can't meet 10.
+    /// Pixels, two bytes each and the upper first, to infrared numbers. A pixel whose mask is false stays as it was.
+    ///
+    /// # Errors
+    ///
+    /// [`Refusal::ShortFrame`] (10), [`Refusal::SupplyRange`] (7), [`Refusal::ZeroDivisor`] (8). Arrays of 384 bytes, 192 bools and 192 numbers can't meet 10.
     pub fn raw_pixels_to_ir_data(
         &self,
         settings: &Settings,
@@ -445,17 +470,25 @@ impl Calibration {
     }
 
     /// Infrared numbers to temperatures, in place, for the ambient temperature that the infrared call gave. A pixel whose mask is false stays as
-    /// it was. Refusals 10, 6, 8.
+    /// it was.
+    ///
+    /// # Errors
+    ///
+    /// [`Refusal::ShortFrame`] (10), [`Refusal::BasicRange`] (6), [`Refusal::ZeroDivisor`] (8).
     pub fn raw_ir_to_temperatures(&self, settings: &Settings, t_a: f32, valid_pixels: &[bool], destination: &mut [f32]) -> Result<Frame, Refusal> {
         let answer = border::raw_ir_to_temperatures(&self.lent(), settings.lent(), t_a, as_bytes(valid_pixels), as_bits(destination));
         answered(answer, valid_pixels)
     }
 
-    /// A whole frame in one pass: the temperatures of all 192 pixels. Refusals 6, 7, 8.
+    /// A whole frame in one pass: the temperatures of all 192 pixels.
+    ///
+    /// # Errors
+    ///
+    /// [`Refusal::BasicRange`] (6), [`Refusal::SupplyRange`] (7), [`Refusal::ZeroDivisor`] (8).
     ///
     /// ```
     /// use loamchalice::{Calibration, RamData, Settings, Subpage};
-    /// let camera = Calibration::from_data(include_bytes!("../../../cards/sound.bin"))?;
+    /// let camera = Calibration::from_data(include_bytes!("../cards/sound.bin"))?;
     /// let ram = RamData { t_a_v_be: 19442, t_a_ptat: 1711, v_dd_pixel: -13115, gain: 6391, compensation_pixel: -105 };
     /// let (picture, frame) = camera.picture(&Settings::default(), ram, Subpage::Zero, &[0xFD; 384])?;
     /// assert_eq!((picture.len(), frame.lost), (192, 0));
@@ -467,7 +500,11 @@ impl Calibration {
         Ok((picture, frame))
     }
 
-    /// Pixels to temperatures in one pass; which pixels are written is as with infrared numbers. Refusals 10, 6, 7, 8.
+    /// Pixels to temperatures in one pass; which pixels are written is as with infrared numbers.
+    ///
+    /// # Errors
+    ///
+    /// [`Refusal::ShortFrame`] (10), [`Refusal::BasicRange`] (6), [`Refusal::SupplyRange`] (7), [`Refusal::ZeroDivisor`] (8).
     pub fn raw_pixels_to_temperatures(
         &self,
         settings: &Settings,
@@ -482,12 +519,16 @@ impl Calibration {
     }
 
     /// The second pass, for scenes beyond the basic range: each pixel's basic temperature is worked out as in one pass, and its temperature from that with
-    /// the numbers of the range that holds it. Refusals 10, 6, 7, 8, 12. The coefficients are those of the basic range that the card was loaded with;
+    /// the numbers of the range that holds it. The coefficients are those of the basic range that the card was loaded with;
     /// [`Calibration::settings`] has the same one.
+    ///
+    /// # Errors
+    ///
+    /// [`Refusal::ShortFrame`] (10), [`Refusal::BasicRange`] (6), [`Refusal::SupplyRange`] (7), [`Refusal::ZeroDivisor`] (8), [`Refusal::UnorderedCorners`] (12).
     ///
     /// ```
     /// use loamchalice::{Calibration, RamData, Settings, Subpage, ALL_PIXELS};
-    /// let camera = Calibration::from_data(include_bytes!("../../../cards/sound.bin"))?;
+    /// let camera = Calibration::from_data(include_bytes!("../cards/sound.bin"))?;
     /// let ram = RamData { t_a_v_be: 19442, t_a_ptat: 1711, v_dd_pixel: -13115, gain: 6391, compensation_pixel: -105 };
     /// let (mut basic, mut ranged) = ([0f32; 192], [0f32; 192]);
     /// let hot = [0x7F; 384];
@@ -511,6 +552,10 @@ impl Calibration {
 
     /// [`Calibration::raw_pixels_to_ir_data`] with what a [`Filter`] answers; `None` is that call. An average that is NaN refuses nothing: with a
     /// gradient every pixel asked for is lost.
+    ///
+    /// # Errors
+    ///
+    /// [`Refusal::ShortFrame`] (10), [`Refusal::SupplyRange`] (7), [`Refusal::ZeroDivisor`] (8).
     #[allow(clippy::too_many_arguments)]
     pub fn filtered_pixels_to_ir_data(
         &self,
@@ -529,9 +574,13 @@ impl Calibration {
 
     /// [`Calibration::raw_pixels_to_temperatures`] with what a [`Filter`] answers; `None` is that call.
     ///
+    /// # Errors
+    ///
+    /// [`Refusal::ShortFrame`] (10), [`Refusal::BasicRange`] (6), [`Refusal::SupplyRange`] (7), [`Refusal::ZeroDivisor`] (8).
+    ///
     /// ```
     /// use loamchalice::{Calibration, Filter, RamData, Settings, Subpage, ALL_PIXELS};
-    /// let camera = Calibration::from_data(include_bytes!("../../../cards/sound.bin"))?;
+    /// let camera = Calibration::from_data(include_bytes!("../cards/sound.bin"))?;
     /// let ram = RamData { t_a_v_be: 19442, t_a_ptat: 1711, v_dd_pixel: -13115, gain: 6391, compensation_pixel: -105 };
     /// let mut filter = Filter::new(); // of this subpage
     /// filter.push(ram.compensation_pixel);
@@ -556,6 +605,10 @@ impl Calibration {
     }
 
     /// [`Calibration::raw_pixels_to_ranged_temperatures`] with what a [`Filter`] answers; `None` is that call.
+    ///
+    /// # Errors
+    ///
+    /// [`Refusal::ShortFrame`] (10), [`Refusal::BasicRange`] (6), [`Refusal::SupplyRange`] (7), [`Refusal::ZeroDivisor`] (8), [`Refusal::UnorderedCorners`] (12).
     #[allow(clippy::too_many_arguments)]
     pub fn filtered_pixels_to_ranged_temperatures(
         &self,

@@ -62,7 +62,11 @@ pub fn access_pattern_corrections(word: u16) -> AccessPattern {
     AccessPattern { chess_3, chess_2, chess_1, pattern }
 }
 
-/// Which of the six entries of [`AccessPattern::pattern`] a pixel takes. Refusal 14.
+/// Which of the six entries of [`AccessPattern::pattern`] a pixel takes.
+///
+/// # Errors
+///
+/// [`Refusal::PixelNumber`] (14).
 ///
 /// ```
 /// use loamchalice::{mlx90640::interleave_entry, Refusal};
@@ -76,7 +80,11 @@ pub fn interleave_entry(pixel: usize) -> Result<usize, Refusal> {
 }
 
 /// Which of the four entries of a chessboard a pixel takes: 0 for an even row and an even column, 1 for an odd row and an even column, 2 for
-/// an even row and an odd column, 3 for both odd. Refusal 14.
+/// an even row and an odd column, 3 for both odd.
+///
+/// # Errors
+///
+/// [`Refusal::PixelNumber`] (14).
 ///
 /// ```
 /// use loamchalice::mlx90640::chessboard_entry;

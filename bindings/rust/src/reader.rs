@@ -5,7 +5,7 @@ use crate::{border, Calibration, Refusal, Tables, BASIC_RANGE};
 ///
 /// ```
 /// use loamchalice::{Calibration, Reader, Refusal};
-/// let card = include_bytes!("../../../cards/sound.bin");
+/// let card = include_bytes!("../cards/sound.bin");
 /// let mut reader = Reader::new();
 /// let mut camera = None;
 /// for piece in card.chunks(63) { // what the bus hands over
@@ -33,12 +33,20 @@ impl Reader {
         Reader { image: [0; 1664], state: border::reader_new(), basic_range: BASIC_RANGE, tables: Tables::new() }
     }
 
-    /// Takes a piece: `None` while more is wanted, else the loaded card. Refusals 3, 4.
+    /// Takes a piece: `None` while more is wanted, else the loaded card.
+    ///
+    /// # Errors
+    ///
+    /// [`Refusal::DamagedWord`] (3), [`Refusal::OffsetScale`] (4).
     pub fn take(&mut self, piece: &[u8]) -> Result<Option<Calibration>, Refusal> {
         self.take_in(piece, BASIC_RANGE)
     }
 
-    /// Takes a piece; the basic range that comes with the last byte is the card's. Refusals 3, 4, 6, 13.
+    /// Takes a piece; the basic range that comes with the last byte is the card's.
+    ///
+    /// # Errors
+    ///
+    /// [`Refusal::DamagedWord`] (3), [`Refusal::OffsetScale`] (4), [`Refusal::BasicRange`] (6), [`Refusal::ZeroFactor`] (13).
     pub fn take_in(&mut self, piece: &[u8], basic_range: usize) -> Result<Option<Calibration>, Refusal> {
         if self.state.ended == 0 {
             self.basic_range = basic_range;
@@ -53,6 +61,10 @@ impl Reader {
     }
 
     /// No more bytes come: refusal 1 with the bytes so far, which ends the reading; once ended, the answer again.
+    ///
+    /// # Errors
+    ///
+    /// [`Refusal::ShortImage`] (1); once ended, the refusal that ended it.
     pub fn finished(&mut self) -> Result<Calibration, Refusal> {
         self.state = border::reader_finished(self.state);
         self.answer(self.state.answer)

@@ -22,16 +22,20 @@ impl Scrubbed {
 }
 
 /// Mends a card in place: each checked word that is one flip from a codeword becomes that codeword. All other words, and bytes past 1,664, stay. The card
-/// loads as before, with no word mended; a second scrub changes nothing. Refusal 1.
+/// loads as before, with no word mended; a second scrub changes nothing.
+///
+/// # Errors
+///
+/// [`Refusal::ShortImage`] (1).
 ///
 /// ```
 /// use loamchalice::{scrub, Calibration};
-/// let mut card = *include_bytes!("../../../cards/mended.bin");
+/// let mut card = *include_bytes!("../cards/mended.bin");
 /// assert_eq!(Calibration::from_data(&card)?.mended().count, 8); // the warning
 /// let scrubbed = scrub(&mut card)?;
 /// assert_eq!(scrubbed.changed(), [16, 22, 45, 64, 300, 500, 700, 831]);
 /// assert!(scrubbed.damaged().is_empty());
-/// assert_eq!(card, *include_bytes!("../../../cards/sound.bin"));
+/// assert_eq!(card, *include_bytes!("../cards/sound.bin"));
 /// assert_eq!(Calibration::from_data(&card)?.mended().count, 0);
 /// # Ok::<(), loamchalice::Refusal>(())
 /// ```

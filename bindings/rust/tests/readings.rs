@@ -1,23 +1,23 @@
 //! Readings of document 01 through the binding.
 use loamchalice::{burn, environment_is_default, next_step, scrub, Burnt, Calibration, Card, Filter, RamData, Reader, Refusal, Settings, Subpage, ALL_PIXELS};
 
-const SOUND: &[u8] = include_bytes!("../../../cards/sound.bin");
+const SOUND: &[u8] = include_bytes!("../cards/sound.bin");
 const ROOM: RamData = RamData { t_a_v_be: 19442, t_a_ptat: 1711, v_dd_pixel: -13115, gain: 6391, compensation_pixel: -105 };
 
 #[test]
 fn cards_are_refused_by_number_place_and_value() {
     let refused = |image: &[u8]| Calibration::from_data(image).err().map(|r| (r.number(), r.place(), r.value()));
     assert_eq!(refused(SOUND), None);
-    assert_eq!(refused(include_bytes!("../../../cards/mended.bin")), None);
-    assert_eq!(refused(include_bytes!("../../../cards/wiped.bin")), None);
-    assert_eq!(refused(include_bytes!("../../../cards/short.bin")), Some((1, 1663, 0)));
-    assert_eq!(refused(include_bytes!("../../../cards/damaged.bin")), Some((3, 100, 516)));
+    assert_eq!(refused(include_bytes!("../cards/mended.bin")), None);
+    assert_eq!(refused(include_bytes!("../cards/wiped.bin")), None);
+    assert_eq!(refused(include_bytes!("../cards/short.bin")), Some((1, 1663, 0)));
+    assert_eq!(refused(include_bytes!("../cards/damaged.bin")), Some((3, 100, 516)));
     assert_eq!(refused(&[0xFF; 1664]), Some((4, 63, 0)));
 }
 
 #[test]
 fn a_refusal_says_itself() {
-    let refusal = Calibration::from_data(include_bytes!("../../../cards/damaged.bin")).unwrap_err();
+    let refusal = Calibration::from_data(include_bytes!("../cards/damaged.bin")).unwrap_err();
     assert_eq!(refusal.to_string(), "refusal 3: word 100 is damaged: 0x0204");
     let _: &dyn std::error::Error = &refusal;
 }
@@ -107,11 +107,11 @@ fn a_zero_that_is_negated_is_minus_zero() {
 fn a_card_is_read_and_written() {
     let sound = Card::words(SOUND).unwrap();
     assert_eq!(sound.write().unwrap(), *SOUND);
-    let mended = Card::words(include_bytes!("../../../cards/mended.bin")).unwrap();
+    let mended = Card::words(include_bytes!("../cards/mended.bin")).unwrap();
     assert_eq!(mended, sound);
-    let damaged = Card::words(include_bytes!("../../../cards/damaged.bin"));
+    let damaged = Card::words(include_bytes!("../cards/damaged.bin"));
     assert_eq!(damaged, Err(Refusal::DamagedWord { word: 100, bits: 516 }));
-    let lines = include_str!("../../../cards/sound.txt").lines();
+    let lines = include_str!("../cards/sound.txt").lines();
     let words: Vec<u16> = lines.map(|line| parsed(line.split('\t').next().unwrap())).collect();
     assert_eq!(sound.unchecked, [&words[..16], &words[19..21]].concat()[..]);
     assert_eq!(sound.data, [&words[16..19], &words[21..]].concat()[..]);
@@ -225,10 +225,10 @@ fn an_average_that_is_no_number_loses_every_pixel_if_there_is_a_gradient() {
 
 #[test]
 fn a_card_is_mended_in_place() {
-    let mut card = include_bytes!("../../../cards/worn.bin").to_vec();
+    let mut card = include_bytes!("../cards/worn.bin").to_vec();
     let first = scrub(&mut card).unwrap();
     assert_eq!((first.changed(), first.damaged()), (&[16, 22, 45, 64, 200, 300, 500, 700, 831][..], &[100, 400][..]));
-    assert_eq!(card, include_bytes!("../../../crates/scrub_card/stdout"));
+    assert_eq!(card, include_bytes!("worn_scrubbed.bin"));
     let scrubbed = card.clone();
     let second = scrub(&mut card).unwrap();
     assert_eq!((second.changed(), second.damaged()), (&[][..], &[100, 400][..]));
@@ -240,8 +240,7 @@ fn a_card_is_mended_in_place() {
 // However a card is cut, it ends as a load does, on the piece that document 02 says.
 #[test]
 fn a_card_in_pieces_ends_as_a_load() {
-    let cards: [&[u8]; 4] =
-        [SOUND, include_bytes!("../../../cards/mended.bin"), include_bytes!("../../../cards/damaged.bin"), include_bytes!("../../../cards/blank.bin")];
+    let cards: [&[u8]; 4] = [SOUND, include_bytes!("../cards/mended.bin"), include_bytes!("../cards/damaged.bin"), include_bytes!("../cards/blank.bin")];
     for card in cards {
         for size in [1, 2, 63, 64, 1663, 1664, 2000] {
             let mut reader = Reader::new();
