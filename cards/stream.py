@@ -5,11 +5,11 @@ import struct
 NAMES = (
     "encode", "check", "load", "row", "subpage", "read words", "write", "scrub", "burn", "pieces", "filter", "camera", "frame",
     "infrared", "one pass", "second pass", "filtered infrared", "filtered one pass", "filtered second pass", "temperatures",
-    "MLX90640 word", "MLX90640 split", "MLX90640 pixel")
+    "MLX90640 word", "MLX90640 split", "MLX90640 pixel", "MLX90640 load")
 KINDS = dict(enumerate(NAMES, 1))
 ENCODE, CHECK, LOAD, ROW, SUBPAGE, READ_WORDS, WRITE, SCRUB, BURN, PIECES, FILTER, CAMERA, FRAME = range(1, 14)
 INFRARED, ONE_PASS, SECOND_PASS, FILTERED_INFRARED, FILTERED_ONE_PASS, FILTERED_SECOND_PASS, TEMPERATURES = range(14, 21)
-BIGGER_WORD, BIGGER_SPLIT, BIGGER_PIXEL = range(21, 24)
+BIGGER_WORD, BIGGER_SPLIT, BIGGER_PIXEL, BIGGER_LOAD = range(21, 25)
 ON_A_FRAME = range(INFRARED, TEMPERATURES + 1)
 HEAD = ">HHII"
 
@@ -18,6 +18,7 @@ KEPT = 77
 KEPT_REAL = 0x429A0000
 NAN = 0x7FC00000
 ENTRIES = 200
+BIGGER_ENTRIES = 776
 
 
 # ---- Numbers, the upper byte first
@@ -72,6 +73,25 @@ def tables(lists):
     forms = [(i32, KEPT)] * 2 + [(u32, KEPT_REAL)] * 3
     whole = b"".join(write(*entries, *[kept] * (ENTRIES - len(entries))) for entries, (write, kept) in zip(lists, forms))
     assert len(whole) == 4000
+    return whole
+
+
+def bigger_record(r):
+    """The MLX90640's, a dict likewise."""
+    first = i32(r["k_v_dd"], r["v_dd_25"]) + u32(r["resolution"])
+    first += u32(r["k_v_ptat"], r["k_t_ptat"], r["v_ptat_25"], r["alpha_ptat"], r["gain"], r["k_s_ta"])
+    first += i32(*r["corners"]) + u32(*r["k_s_to"], *r["coefficients"], *r["alpha_cp"]) + i32(*r["offset_cp"])
+    gradient = (0, 0) if r["gradient"] is None else (1, r["gradient"])
+    whole = first + u32(r["k_v_cp"], r["k_ta_cp"], *gradient, *r["k_v"], *r["pattern"], r["one"])
+    assert len(whole) == 160
+    return whole
+
+
+def bigger_tables(lists):
+    """Three lists: whole numbers in the first, bits in the others. What is missing of 776 entries is as before."""
+    forms = (i32, KEPT), (u32, KEPT_REAL), (u32, KEPT_REAL)
+    whole = b"".join(write(*entries, *[kept] * (BIGGER_ENTRIES - len(entries))) for entries, (write, kept) in zip(lists, forms))
+    assert len(whole) == 9312
     return whole
 
 

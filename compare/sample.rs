@@ -3,9 +3,11 @@
 //! Chip words, records, tables and infrared numbers are those of the crate as published, temperatures those of the rooted one. By document.rs are
 //! what stops a call, which must fit what the crate does there; what was mended; range coefficient 0; a card's offsets where the crate's average is
 //! not the papers' or its 16 bits don't hold them ("papers judge" in the case's name); and the second pass ("by document"). Where the crate doesn't
-//! answer, the name says what it does. The library is not linked: of library.rs only the types are used here.
+//! answer, the name says what it does. The library is not linked: of library.rs only the types are used here. Of the MLX90640's cards cards640.rs has
+//! what stops a load, and range coefficients from other basic ranges than the crate's ("by document"); all else is the crate's own.
 #[allow(dead_code)]
 mod cards;
+mod cards640;
 #[allow(dead_code)]
 mod document;
 #[allow(dead_code)]
@@ -38,6 +40,7 @@ const FRAMES_MADE: u64 = 165;
 const IMAGE: usize = 1680;
 const ENTRIES: usize = 200;
 const PIXELS: usize = 400;
+const BIGGER_ENTRIES: usize = 776;
 
 type Kind = (u16, &'static str);
 const ENCODE: Kind = (1, "encode");
@@ -52,6 +55,7 @@ const FILTERED_INFRARED: Kind = (17, "filtered infrared");
 const FILTERED_ONE_PASS: Kind = (18, "filtered one pass");
 const FILTERED_SECOND_PASS: Kind = (19, "filtered second pass");
 const TEMPERATURES: Kind = (20, "temperatures");
+const BIGGER_LOAD: Kind = (24, "MLX90640 load");
 
 /// The stream so far, how many answers it has of each kind, and the record and tables that the next frame would lean on.
 struct Stream {
@@ -633,6 +637,89 @@ fn on_cards(s: &mut Stream, n: &mut Numbers) {
     }
 }
 
+// ---- The MLX90640's cards
+
+const BIGGER_FULL: [usize; 3] = [cards640::PIXELS; 3];
+
+fn bigger_card(s: &mut Stream, name: &str, image: &[u8], lengths: [usize; 3], basic: usize) {
+    let verdict = cards640::verdict(image, basic, lengths.into_iter().min().unwrap_or(0));
+    let (did, answer) = cards640::ask(image);
+    let mut record = vec![0; 40];
+    let mut tables = [77, bits(77.0), bits(77.0)].map(|kept| vec![kept; BIGGER_ENTRIES]);
+    let mut label = name.to_string();
+    if verdict.0 == 0 {
+        let c = answer.expect("the crate goes on where there is no refusal");
+        let coefficients = cards640::coefficients(&c, basic);
+        let same = c.alpha_correction().iter().map(|x| bits(*x)).eq(coefficients.map(bits));
+        assert!(basic != cards640::BASIC || same, "{name}: {:?}, document {coefficients:?}", c.alpha_correction());
+        record = cards640::record(&c, coefficients);
+        for (table, entries) in tables.iter_mut().zip(cards640::tables(&c)) {
+            table[..cards640::PIXELS].copy_from_slice(&entries);
+        }
+    } else if !matches!(verdict.0, 2 | 6) {
+        label += &format!(", {did}");
+    }
+    let input = [(basic as u64).to_be_bytes().to_vec(), u16s(lengths.map(|x| x as u16)), image.to_vec()].concat();
+    s.case(BIGGER_LOAD, &label, &input, &[told(verdict), u32s(record), u32s(tables.concat())].concat());
+    s.count("MLX90640 cards", name);
+    s.tally.count(&format!("MLX90640 cards, verdict {}, {did}", verdict.0));
+}
+
+fn bigger_lengths(s: &mut Stream, n: &mut Numbers) {
+    let good = cards640::image_of(&cards640::realistic(n));
+    for length in [0, 830, 831, 1663, 1680] {
+        let mut image = good.clone();
+        image.resize(length, 0xFF);
+        bigger_card(s, &format!("lengths, {length}"), &image, BIGGER_FULL, cards640::BASIC);
+    }
+    for (k, short) in [(0, 767), (1, 767), (2, 767)] {
+        let mut lengths = BIGGER_FULL;
+        lengths[k] = short;
+        bigger_card(s, &format!("short tables, table {k} with {short}"), &good, lengths, cards640::BASIC);
+    }
+    bigger_card(s, "long tables, of several lengths", &good, [769, 776, 775], cards640::BASIC);
+    bigger_card(s, "basic ranges, 4", &good, BIGGER_FULL, 4);
+    for basic in [0, 2, 3] {
+        bigger_card(s, &format!("basic ranges, {basic} by document"), &good, BIGGER_FULL, basic);
+    }
+}
+
+// Words not named are zero.
+fn bigger_edges(s: &mut Stream) {
+    let edges: [(&str, &[(usize, u16)]); 9] = [
+        ("all zero", &[]),
+        ("row and column coefficients at their ends", &[(16, 0x0BA0), (18, 0x8007), (23, 0x7008), (24, 0x0087), (31, 0x7800)]),
+        ("offset rests at their ends", &[(16, 0xC00A), (64, 0x7C00), (95, 0x8000), (831, 0x83FE)]),
+        ("alpha rests at their ends", &[(32, 0xF00A), (33, 0x8000), (64, 0x01F0), (96, 0x0200), (831, 0x0201)]),
+        ("K_Ta rests at their ends", &[(56, 0x00FC), (54, 0x7F80), (55, 0x807F), (64, 6), (65, 8), (96, 8), (97, 6), (831, 8)]),
+        ("an offset outside by its column", &[(17, 0x8000), (31, 0xF000)]),
+        ("a row that drops bits", &[(16, 0x0F00), (21, 0x0200)]),
+        ("a base of alpha outside", &[(33, 0x7FFF), (47, 0x1000)]),
+        ("a K_Ta outside", &[(56, 0x000D), (55, 0x00FF), (64 + 767, 8)]),
+    ];
+    for (name, words) in edges {
+        bigger_card(s, &format!("edges, {name}"), &cards640::image_of(&cards640::zero_but(words)), BIGGER_FULL, cards640::BASIC);
+    }
+    bigger_card(s, "edges, all 0xFF", &[0xFF; 1664], BIGGER_FULL, cards640::BASIC);
+    for word in [0x7FFF, 0x8000, 0x5555, 0xAAAA] {
+        let all: Vec<(usize, u16)> = (48..64).map(|k| (k, word)).collect();
+        let image = cards640::image_of(&cards640::zero_but(&all));
+        bigger_card(s, &format!("words 48 to 63, 0x{word:04X}"), &image, BIGGER_FULL, cards640::BASIC);
+    }
+}
+
+fn bigger_made(s: &mut Stream, n: &mut Numbers) {
+    bigger_card(s, "card K", &cards640::image_of(&cards640::card_k()), BIGGER_FULL, cards640::BASIC);
+    type Make = fn(&mut Numbers) -> cards640::Words;
+    let made: [(&str, usize, Make); 4] =
+        [("realistic", 4, cards640::realistic), ("mild scales", 5, cards640::mild), ("any bytes", 2, cards640::anything), ("sparse", 3, cards640::sparse)];
+    for (class, count, make) in made {
+        for k in 0..count {
+            bigger_card(s, &format!("made, {class}, {k}"), &cards640::image_of(&make(n)), BIGGER_FULL, cards640::BASIC);
+        }
+    }
+}
+
 fn main() {
     let folder = std::env::args().nth(1).expect("usage: sample FOLDER");
     let shown = std::panic::take_hook();
@@ -665,6 +752,10 @@ fn main() {
     for k in 0..FRAMES_MADE {
         made_frame(&mut s, k);
     }
+    let mut n = Numbers::new(SEED + 3);
+    bigger_lengths(&mut s, &mut n);
+    bigger_edges(&mut s);
+    bigger_made(&mut s, &mut n);
     let mut lines: String = s.answers.iter().map(|((_, kind), n)| format!("{kind}\t{n}\tagree\t{n}\n")).collect();
     lines += "first disagreement\tnone\n";
     std::fs::write(format!("{folder}/stdin"), &s.bytes).expect("stdin written");

@@ -1,24 +1,10 @@
 // A card to its record and tables, and the parts of both that can be read.
 use calibration::Calibration;
-use camera::Gradient;
 use camera::Subpage;
 use eeprom::Loaded;
 use offsets::Offset;
 
 // ---- A record
-
-fn same_gradient(answer: &[u8], from: usize, gradient: Gradient) -> usize {
-    match gradient {
-        Gradient::Coefficient(coefficient) => {
-            let at = stream::same_word(answer, from, 1);
-            stream::same_real(answer, at, coefficient)
-        }
-        Gradient::Missing => {
-            let at = stream::same_word(answer, from, 0);
-            stream::same_word(answer, at, 0)
-        }
-    }
-}
 
 fn same_sensor(answer: &[u8], from: usize, record: Calibration) -> usize {
     let mut at = stream::same_small(answer, from, record.k_v_dd);
@@ -50,7 +36,7 @@ fn same_compensation(answer: &[u8], from: usize, record: Calibration) -> usize {
     at = stream::same_real(answer, at, record.k_v_cp);
     at = stream::same_real(answer, at, record.k_ta_cp);
     let gradient = record.temperature_gradient_coefficient;
-    same_gradient(answer, at, gradient)
+    stream::same_gradient(answer, at, gradient)
 }
 
 fn same_record(answer: &[u8], from: usize, record: Calibration) -> usize {

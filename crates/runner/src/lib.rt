@@ -60,6 +60,7 @@ fn agreed(kind: u16, shelf: &[u8], input: &[u8], answer: &[u8]) -> usize {
         stream::CAMERA => 0,
         stream::FRAME => 0,
         stream::INFRARED..=stream::TEMPERATURES => frame_cases::agreed(kind, shelf, input, answer),
+        stream::LOAD_640 => cases640::load(input, answer),
         _ => card_cases::agreed(kind, input, answer),
     }
 }
@@ -74,7 +75,7 @@ fn call(head: Head, case: &[u8], shelf: &mut [u8]) -> usize {
 
 fn is_kind(kind: u16) -> bool {
     match kind {
-        stream::ENCODE..=stream::PIXEL => true,
+        stream::ENCODE..=stream::LOAD_640 => true,
         _ => false,
     }
 }
@@ -89,8 +90,8 @@ fn run_case(head: Head, case: &mut [u8; 65536], shelf: &mut [u8; 65536]) -> usiz
 }
 
 // One more case of a kind, and one more that agrees if it does.
-fn count(cases: &mut [u64; 24], agree: &mut [u64; 24], kind: u16, same: bool) {
-    let k = (kind % 24) as usize;
+fn count(cases: &mut [u64; 32], agree: &mut [u64; 32], kind: u16, same: bool) {
+    let k = (kind % 32) as usize;
     let more: u64 = if same { 1 } else { 0 };
     cases[k] = std::num::wrapping_add_u64(cases[k], 1);
     agree[k] = std::num::wrapping_add_u64(agree[k], more);
@@ -104,7 +105,7 @@ fn keep_name(first: First, case: &[u8; 65536], name: &mut [u8; 4096]) {
 }
 
 // Counts the cases of each kind. Answers the first that does not agree, with its name.
-fn run_cases(cases: &mut [u64; 24], agree: &mut [u64; 24], name: &mut [u8; 4096]) -> First {
+fn run_cases(cases: &mut [u64; 32], agree: &mut [u64; 32], name: &mut [u8; 4096]) -> First {
     let mut case = io::large_buffer();
     let mut shelf = io::large_buffer();
     let mut first = lines::no_first();
@@ -129,8 +130,8 @@ fn run_cases(cases: &mut [u64; 24], agree: &mut [u64; 24], name: &mut [u8; 4096]
 }
 
 pub fn run() {
-    let mut cases = [0u64; 24];
-    let mut agree = [0u64; 24];
+    let mut cases = [0u64; 32];
+    let mut agree = [0u64; 32];
     let mut name = io::buffer();
     let first = run_cases(&mut cases, &mut agree, &mut name);
     lines::kind_lines(&cases, &agree);

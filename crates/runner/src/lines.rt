@@ -69,6 +69,7 @@ fn kind_name(kind: u16) -> bool {
         stream::WORD => io::write_all(STDOUT_FILENO, b"MLX90640 word"),
         stream::SPLIT => io::write_all(STDOUT_FILENO, b"MLX90640 split"),
         stream::PIXEL => io::write_all(STDOUT_FILENO, b"MLX90640 pixel"),
+        stream::LOAD_640 => io::write_all(STDOUT_FILENO, b"MLX90640 load"),
         _ => io::write_all(STDOUT_FILENO, b"unknown kind"),
     }
 }
@@ -86,8 +87,8 @@ fn kind_line(kind: u16, cases: u64, agree: u64) {
 }
 
 // A camera and a frame have no answer.
-pub fn kind_lines(cases: &[u64; 24], agree: &[u64; 24]) {
-    for kind in 0..24u16 {
+pub fn kind_lines(cases: &[u64; 32], agree: &[u64; 32]) {
+    for kind in 0..32u16 {
         let k = kind as usize;
         match kind {
             stream::CAMERA => {}

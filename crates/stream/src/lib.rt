@@ -1,5 +1,6 @@
 // Numbers in a block of bytes, tables filled from one, parts of tables, and how far an answer is the one that a block has.
 // docs/CASES.md says what the blocks are.
+use camera::Gradient;
 use refusal::Told;
 use refusal::Verdict;
 
@@ -50,6 +51,8 @@ pub const WORD: u16 = 21;
 pub const SPLIT: u16 = 22;
 
 pub const PIXEL: u16 = 23;
+
+pub const LOAD_640: u16 = 24;
 
 // ---- Numbers, upper byte first. Past the end of a block every byte is 0
 
@@ -291,6 +294,20 @@ pub fn same_told(answer: &[u8], from: usize, told: Told) -> usize {
 
 pub fn same_verdict(answer: &[u8], from: usize, verdict: Verdict) -> usize {
     same_told(answer, from, verdict.told())
+}
+
+// Whether there is a gradient, and which; 0 where there is none.
+pub fn same_gradient(answer: &[u8], from: usize, gradient: Gradient) -> usize {
+    match gradient {
+        Gradient::Coefficient(coefficient) => {
+            let at = same_word(answer, from, 1);
+            same_real(answer, at, coefficient)
+        }
+        Gradient::Missing => {
+            let at = same_word(answer, from, 0);
+            same_word(answer, at, 0)
+        }
+    }
 }
 
 pub fn same_bytes(answer: &[u8], from: usize, list: &[u8]) -> usize {
