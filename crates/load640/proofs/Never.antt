@@ -6,12 +6,11 @@ use mathlib.Core.Bool.{Bool, true, false, true≢false}
 use mathlib.Core.List.{List, [], _∷_}
 use native.Mathlib.Nat.{mul-assoc, mul-le-mul, mul-mod-left, mod-lt}
 use native.Mathlib.Omega.{arith}
-use lib.Dec.{ltb, leb, lit<}
+use lib.Dec.{ltb, lit<}
 use lib.IntN.{ℤ, pos, negsuc, _-ℤ_}
 use lib.Signed.{mag}
 use lib.Ieee.{Float}
 use borrow.Author.Tests.{le-ltb, leb-false}
-use Rattle.lists.specs.Pick.{pick}
 use Rattle.lists.specs.Last.{lastBelow}
 use Rattle.floats.specs.Floats.{_⊕_, _⊗_, real, over, isZero}
 use Rattle.floats.specs.Constants.{one}
@@ -28,8 +27,8 @@ use Rattle.util.specs.Fields.{signed}
 use Rattle.util.specs.Words.{wordAt}
 use Rattle.util.proofs.Width.{stands}
 use Rattle.ranges.specs.Coefficients.{growth, zeroFactor}
-use Rattle.record640.specs.Record.{cornersOf, cornersAt, kSTos, stepOf}
-use Rattle.load640.specs.Load.{rangeCount, Tables, zeroRange, dataTests, loadTests, loadVerdict}
+use Rattle.record640.specs.Record.{cornersOf, cornersAt, kSTos}
+use Rattle.load640.specs.Load.{rangeCount, dataTests, loadTests}
 use Rattle.load640.specs.Never.{NoZero, Never}
 
 -- ---- K: a signed byte over a power of two

@@ -25,15 +25,15 @@ unfolding calibrationOf kVPtat kTPtat signed powerOfTwo div ofInt round size spa
 ptat = ((refl, refl), (refl, refl))
 
 eight : Holds (alphaPtat 0x3000 (pos 8))
-unfolding calibrationOf alphaPtatOf ofInt round size span climb units odd trailingZeros
+unfolding calibrationOf alphaPtatOf powerOfTwo div ofInt round size span climb units odd trailingZeros
 eight = (refl, refl)
 
 nine : Holds (alphaPtat 0x4000 (pos 9))
-unfolding calibrationOf alphaPtatOf ofInt round size span climb units odd trailingZeros
+unfolding calibrationOf alphaPtatOf powerOfTwo div ofInt round size span climb units odd trailingZeros
 nine = (refl, refl)
 
 eleven : Holds (alphaPtat 0xF000 (pos 11))
-unfolding calibrationOf alphaPtatOf ofInt round size span climb units odd trailingZeros
+unfolding calibrationOf alphaPtatOf powerOfTwo div ofInt round size span climb units odd trailingZeros
 eleven = (refl, refl)
 
 pattern : Holds (access 0x0841 (pos 1) (pos 3) (pos 5) (pos 1))
