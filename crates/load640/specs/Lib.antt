@@ -1,3 +1,4 @@
--- A load of the MLX90640's card. Inner is for inner functions only.
+-- A load of the MLX90640's card. Never: refusal 13 does not arise. Inner is for inner functions only.
 pub mod Load
+pub mod Never
 pub mod Inner

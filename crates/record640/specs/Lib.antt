@@ -1,2 +1,3 @@
--- The numbers of the MLX90640's record.
+-- The numbers of the MLX90640's record. Readings: those of the paper that are proved.
 pub mod Record
+pub mod Readings

@@ -1,0 +1,2 @@
+-- The claim over the list of readings.
+pub mod Readings
