@@ -6560,57 +6560,57 @@ loamchalice.frames.calculations.from_pixels:
 .Lframes_BB4_8:
 	cmpq	$383, %r15
 	ja	.Lframes_BB4_14
-	movb	$10, 64(%rsp)
+	movb	$11, 64(%rsp)
 	movq	%r15, 72(%rsp)
 	jmp	.Lframes_BB4_22
 .Lframes_BB4_10:
 	cmpq	$383, %r15
 	ja	.Lframes_BB4_16
-	movb	$10, 64(%rsp)
+	movb	$11, 64(%rsp)
 	movq	%r15, 72(%rsp)
 	jmp	.Lframes_BB4_33
 .Lframes_BB4_12:
 	cmpq	$383, %r15
 	ja	.Lframes_BB4_18
-	movb	$10, 64(%rsp)
+	movb	$11, 64(%rsp)
 	movq	%r15, 72(%rsp)
 	jmp	.Lframes_BB4_52
 .Lframes_BB4_14:
 	cmpq	$191, %r9
 	ja	.Lframes_BB4_20
-	movb	$10, 64(%rsp)
+	movb	$11, 64(%rsp)
 	movq	%r9, 72(%rsp)
 	jmp	.Lframes_BB4_22
 .Lframes_BB4_16:
 	cmpq	$191, %r9
 	ja	.Lframes_BB4_31
-	movb	$10, 64(%rsp)
+	movb	$11, 64(%rsp)
 	movq	%r9, 72(%rsp)
 	jmp	.Lframes_BB4_33
 .Lframes_BB4_18:
 	cmpq	$191, %r9
 	ja	.Lframes_BB4_50
-	movb	$10, 64(%rsp)
+	movb	$11, 64(%rsp)
 	movq	%r9, 72(%rsp)
 	jmp	.Lframes_BB4_52
 .Lframes_BB4_20:
 	movb	$1, %r9b
 	cmpq	$191, %r10
 	ja	.Lframes_BB4_23
-	movb	$10, 64(%rsp)
+	movb	$11, 64(%rsp)
 	movq	%r10, 72(%rsp)
 .Lframes_BB4_22:
 	xorl	%r9d, %r9d
 .Lframes_BB4_23:
-	movb	$5, 168(%rsp)
+	movb	$6, 168(%rsp)
 	movq	%r11, 176(%rsp)
 	movl	%r13d, %edx
 	subl	%ebp, %edx
 	movswl	%dx, %r8d
-	movb	$6, %al
+	movb	$7, %al
 	cmpl	%edx, %r8d
 	jne	.Lframes_BB4_28
-	movb	$7, %al
+	movb	$8, %al
 	testw	%bx, %bx
 	je	.Lframes_BB4_28
 	cmpw	$0, 12(%rsp)
@@ -6661,20 +6661,20 @@ loamchalice.frames.calculations.from_pixels:
 	movb	$1, %al
 	cmpq	$191, %r10
 	ja	.Lframes_BB4_34
-	movb	$10, 64(%rsp)
+	movb	$11, 64(%rsp)
 	movq	%r10, 72(%rsp)
 .Lframes_BB4_33:
 	xorl	%eax, %eax
 .Lframes_BB4_34:
-	movb	$5, 168(%rsp)
+	movb	$6, 168(%rsp)
 	movq	%r11, 176(%rsp)
 	movl	%r13d, %edx
 	subl	%ebp, %edx
 	movswl	%dx, %r8d
-	movb	$6, %r10b
+	movb	$7, %r10b
 	cmpl	%edx, %r8d
 	jne	.Lframes_BB4_39
-	movb	$7, %r10b
+	movb	$8, %r10b
 	testw	%bx, %bx
 	je	.Lframes_BB4_39
 	cmpw	$0, 12(%rsp)
@@ -6742,11 +6742,11 @@ loamchalice.frames.calculations.from_pixels:
 	movl	$7, %r10d
 	cmpw	%r15w, 46(%rsp)
 	jle	.Lframes_BB4_48
-	movb	$12, 456(%rsp)
+	movb	$13, 456(%rsp)
 	xorl	%r10d, %r10d
 	jmp	.Lframes_BB4_49
 .Lframes_BB4_48:
-	movb	$12, 456(%rsp)
+	movb	$13, 456(%rsp)
 	movq	%r10, 464(%rsp)
 	movb	$1, %r10b
 .Lframes_BB4_49:
@@ -6761,7 +6761,7 @@ loamchalice.frames.calculations.from_pixels:
 	movb	$1, %al
 	cmpq	$191, %r10
 	ja	.Lframes_BB4_53
-	movb	$10, 64(%rsp)
+	movb	$11, 64(%rsp)
 	movq	%r10, 72(%rsp)
 .Lframes_BB4_52:
 	xorl	%eax, %eax
@@ -6769,10 +6769,10 @@ loamchalice.frames.calculations.from_pixels:
 	movl	%r13d, %edx
 	subl	%ebp, %edx
 	movswl	%dx, %r8d
-	movb	$6, %r9b
+	movb	$7, %r9b
 	cmpl	%edx, %r8d
 	jne	.Lframes_BB4_58
-	movb	$7, %r9b
+	movb	$8, %r9b
 	testw	%bx, %bx
 	je	.Lframes_BB4_58
 	cmpw	$0, 12(%rsp)
@@ -7325,61 +7325,64 @@ loamchalice_raw_pixels_to_ir_data:
 	jmpq	*%rdi
 .Lframes_BB6_3:
 	movl	$1, %edx
-	jmp	.Lframes_BB6_18
+	jmp	.Lframes_BB6_19
 .Lframes_BB6_1:
 	movl	156(%rsp), %eax
 	xorl	%ecx, %ecx
 	xorl	%edx, %edx
-	jmp	.Lframes_BB6_20
+	jmp	.Lframes_BB6_21
 .Lframes_BB6_17:
-	movl	$14, %edx
-	jmp	.Lframes_BB6_18
-.Lframes_BB6_9:
-	movl	$7, %edx
-	jmp	.Lframes_BB6_5
-.Lframes_BB6_14:
-	movl	$11, %edx
-	jmp	.Lframes_BB6_18
-.Lframes_BB6_8:
-	movl	$6, %edx
-	jmp	.Lframes_BB6_18
-.Lframes_BB6_15:
-	movl	$12, %edx
-	jmp	.Lframes_BB6_18
-.Lframes_BB6_12:
-	movl	$9, %edx
+	movl	$13, %edx
 	jmp	.Lframes_BB6_19
-.Lframes_BB6_6:
-	movl	$3, %edx
+.Lframes_BB6_14:
+	movl	$10, %edx
+	jmp	.Lframes_BB6_19
+.Lframes_BB6_7:
+	movzwl	%dx, %ecx
+	movl	$4, %edx
+	jmp	.Lframes_BB6_19
+.Lframes_BB6_15:
+	movl	$11, %edx
+	jmp	.Lframes_BB6_19
+.Lframes_BB6_12:
+	movzwl	%dx, %ecx
+	movl	$9, %edx
 	jmp	.Lframes_BB6_19
 .Lframes_BB6_4:
 	movl	$2, %edx
 	jmp	.Lframes_BB6_5
-.Lframes_BB6_7:
-	movzwl	%dx, %ecx
-	movl	$4, %edx
-	jmp	.Lframes_BB6_18
+.Lframes_BB6_18:
+	movl	$14, %edx
+	jmp	.Lframes_BB6_19
+.Lframes_BB6_6:
+	movl	$3, %edx
+	jmp	.Lframes_BB6_20
 .Lframes_BB6_10:
+	movl	$7, %edx
+	jmp	.Lframes_BB6_5
+.Lframes_BB6_8:
+	movl	$5, %edx
+	jmp	.Lframes_BB6_19
+.Lframes_BB6_16:
+	movl	$12, %edx
+	jmp	.Lframes_BB6_19
+.Lframes_BB6_9:
+	movl	$6, %edx
+.Lframes_BB6_19:
+	xorl	%esi, %esi
+	jmp	.Lframes_BB6_20
+.Lframes_BB6_13:
+	movl	$9, %edx
+	jmp	.Lframes_BB6_20
+.Lframes_BB6_11:
 	movl	$8, %edx
 .Lframes_BB6_5:
 	xorl	%esi, %esi
 	xorl	%ecx, %ecx
-	jmp	.Lframes_BB6_19
-.Lframes_BB6_16:
-	movl	$13, %edx
-	jmp	.Lframes_BB6_18
-.Lframes_BB6_13:
-	movl	$10, %edx
-	jmp	.Lframes_BB6_18
-.Lframes_BB6_11:
-	movzwl	%dx, %ecx
-	movl	$9, %edx
-.Lframes_BB6_18:
-	xorl	%esi, %esi
-.Lframes_BB6_19:
+.Lframes_BB6_20:
 	movzwl	%si, %r14d
 	xorl	%edi, %edi
-.Lframes_BB6_20:
+.Lframes_BB6_21:
 	movq	%rdx, (%rbx)
 	movq	%rcx, 8(%rbx)
 	movq	%r14, 16(%rbx)
@@ -7414,6 +7417,7 @@ loamchalice_raw_pixels_to_ir_data:
 	.long	.Lframes_BB6_15-.Lframes_JTI6_0
 	.long	.Lframes_BB6_16-.Lframes_JTI6_0
 	.long	.Lframes_BB6_17-.Lframes_JTI6_0
+	.long	.Lframes_BB6_18-.Lframes_JTI6_0
 
 	.section	.text.loamchalice_raw_pixels_to_ranged_temperatures,"ax",@progbits
 	.globl	loamchalice_raw_pixels_to_ranged_temperatures
@@ -7528,62 +7532,65 @@ loamchalice_raw_pixels_to_ranged_temperatures:
 	jmpq	*%rdi
 .Lframes_BB7_3:
 	movl	$1, %edx
-	jmp	.Lframes_BB7_18
+	jmp	.Lframes_BB7_19
 .Lframes_BB7_1:
 	movl	164(%rsp), %eax
 	xorl	%esi, %esi
 	xorl	%ecx, %ecx
 	xorl	%edx, %edx
-	jmp	.Lframes_BB7_20
+	jmp	.Lframes_BB7_21
 .Lframes_BB7_17:
-	movl	$14, %edx
-	jmp	.Lframes_BB7_18
-.Lframes_BB7_9:
-	movl	$7, %edx
-	jmp	.Lframes_BB7_5
-.Lframes_BB7_14:
-	movl	$11, %edx
-	jmp	.Lframes_BB7_18
-.Lframes_BB7_8:
-	movl	$6, %edx
-	jmp	.Lframes_BB7_18
-.Lframes_BB7_15:
-	movl	$12, %edx
-	jmp	.Lframes_BB7_18
-.Lframes_BB7_12:
-	movl	$9, %edx
+	movl	$13, %edx
 	jmp	.Lframes_BB7_19
-.Lframes_BB7_6:
-	movl	$3, %edx
+.Lframes_BB7_14:
+	movl	$10, %edx
+	jmp	.Lframes_BB7_19
+.Lframes_BB7_7:
+	movzwl	%dx, %ecx
+	movl	$4, %edx
+	jmp	.Lframes_BB7_19
+.Lframes_BB7_15:
+	movl	$11, %edx
+	jmp	.Lframes_BB7_19
+.Lframes_BB7_12:
+	movzwl	%dx, %ecx
+	movl	$9, %edx
 	jmp	.Lframes_BB7_19
 .Lframes_BB7_4:
 	movl	$2, %edx
 	jmp	.Lframes_BB7_5
-.Lframes_BB7_7:
-	movzwl	%dx, %ecx
-	movl	$4, %edx
-	jmp	.Lframes_BB7_18
+.Lframes_BB7_18:
+	movl	$14, %edx
+	jmp	.Lframes_BB7_19
+.Lframes_BB7_6:
+	movl	$3, %edx
+	jmp	.Lframes_BB7_20
 .Lframes_BB7_10:
+	movl	$7, %edx
+	jmp	.Lframes_BB7_5
+.Lframes_BB7_8:
+	movl	$5, %edx
+	jmp	.Lframes_BB7_19
+.Lframes_BB7_16:
+	movl	$12, %edx
+	jmp	.Lframes_BB7_19
+.Lframes_BB7_9:
+	movl	$6, %edx
+.Lframes_BB7_19:
+	xorl	%esi, %esi
+	jmp	.Lframes_BB7_20
+.Lframes_BB7_13:
+	movl	$9, %edx
+	jmp	.Lframes_BB7_20
+.Lframes_BB7_11:
 	movl	$8, %edx
 .Lframes_BB7_5:
 	xorl	%esi, %esi
 	xorl	%ecx, %ecx
-	jmp	.Lframes_BB7_19
-.Lframes_BB7_16:
-	movl	$13, %edx
-	jmp	.Lframes_BB7_18
-.Lframes_BB7_13:
-	movl	$10, %edx
-	jmp	.Lframes_BB7_18
-.Lframes_BB7_11:
-	movzwl	%dx, %ecx
-	movl	$9, %edx
-.Lframes_BB7_18:
-	xorl	%esi, %esi
-.Lframes_BB7_19:
+.Lframes_BB7_20:
 	movzwl	%si, %esi
 	xorl	%edi, %edi
-.Lframes_BB7_20:
+.Lframes_BB7_21:
 	movq	%rdx, (%rbx)
 	movq	%rcx, 8(%rbx)
 	movq	%rsi, 16(%rbx)
@@ -7617,6 +7624,7 @@ loamchalice_raw_pixels_to_ranged_temperatures:
 	.long	.Lframes_BB7_15-.Lframes_JTI7_0
 	.long	.Lframes_BB7_16-.Lframes_JTI7_0
 	.long	.Lframes_BB7_17-.Lframes_JTI7_0
+	.long	.Lframes_BB7_18-.Lframes_JTI7_0
 
 	.section	.text.loamchalice_raw_pixels_to_temperatures,"ax",@progbits
 	.globl	loamchalice_raw_pixels_to_temperatures
@@ -7731,62 +7739,65 @@ loamchalice_raw_pixels_to_temperatures:
 	jmpq	*%rdi
 .Lframes_BB8_3:
 	movl	$1, %edx
-	jmp	.Lframes_BB8_18
+	jmp	.Lframes_BB8_19
 .Lframes_BB8_1:
 	movl	164(%rsp), %eax
 	xorl	%esi, %esi
 	xorl	%ecx, %ecx
 	xorl	%edx, %edx
-	jmp	.Lframes_BB8_20
+	jmp	.Lframes_BB8_21
 .Lframes_BB8_17:
-	movl	$14, %edx
-	jmp	.Lframes_BB8_18
-.Lframes_BB8_9:
-	movl	$7, %edx
-	jmp	.Lframes_BB8_5
-.Lframes_BB8_14:
-	movl	$11, %edx
-	jmp	.Lframes_BB8_18
-.Lframes_BB8_8:
-	movl	$6, %edx
-	jmp	.Lframes_BB8_18
-.Lframes_BB8_15:
-	movl	$12, %edx
-	jmp	.Lframes_BB8_18
-.Lframes_BB8_12:
-	movl	$9, %edx
+	movl	$13, %edx
 	jmp	.Lframes_BB8_19
-.Lframes_BB8_6:
-	movl	$3, %edx
+.Lframes_BB8_14:
+	movl	$10, %edx
+	jmp	.Lframes_BB8_19
+.Lframes_BB8_7:
+	movzwl	%dx, %ecx
+	movl	$4, %edx
+	jmp	.Lframes_BB8_19
+.Lframes_BB8_15:
+	movl	$11, %edx
+	jmp	.Lframes_BB8_19
+.Lframes_BB8_12:
+	movzwl	%dx, %ecx
+	movl	$9, %edx
 	jmp	.Lframes_BB8_19
 .Lframes_BB8_4:
 	movl	$2, %edx
 	jmp	.Lframes_BB8_5
-.Lframes_BB8_7:
-	movzwl	%dx, %ecx
-	movl	$4, %edx
-	jmp	.Lframes_BB8_18
+.Lframes_BB8_18:
+	movl	$14, %edx
+	jmp	.Lframes_BB8_19
+.Lframes_BB8_6:
+	movl	$3, %edx
+	jmp	.Lframes_BB8_20
 .Lframes_BB8_10:
+	movl	$7, %edx
+	jmp	.Lframes_BB8_5
+.Lframes_BB8_8:
+	movl	$5, %edx
+	jmp	.Lframes_BB8_19
+.Lframes_BB8_16:
+	movl	$12, %edx
+	jmp	.Lframes_BB8_19
+.Lframes_BB8_9:
+	movl	$6, %edx
+.Lframes_BB8_19:
+	xorl	%esi, %esi
+	jmp	.Lframes_BB8_20
+.Lframes_BB8_13:
+	movl	$9, %edx
+	jmp	.Lframes_BB8_20
+.Lframes_BB8_11:
 	movl	$8, %edx
 .Lframes_BB8_5:
 	xorl	%esi, %esi
 	xorl	%ecx, %ecx
-	jmp	.Lframes_BB8_19
-.Lframes_BB8_16:
-	movl	$13, %edx
-	jmp	.Lframes_BB8_18
-.Lframes_BB8_13:
-	movl	$10, %edx
-	jmp	.Lframes_BB8_18
-.Lframes_BB8_11:
-	movzwl	%dx, %ecx
-	movl	$9, %edx
-.Lframes_BB8_18:
-	xorl	%esi, %esi
-.Lframes_BB8_19:
+.Lframes_BB8_20:
 	movzwl	%si, %esi
 	xorl	%edi, %edi
-.Lframes_BB8_20:
+.Lframes_BB8_21:
 	movq	%rdx, (%rbx)
 	movq	%rcx, 8(%rbx)
 	movq	%rsi, 16(%rbx)
@@ -7820,6 +7831,7 @@ loamchalice_raw_pixels_to_temperatures:
 	.long	.Lframes_BB8_15-.Lframes_JTI8_0
 	.long	.Lframes_BB8_16-.Lframes_JTI8_0
 	.long	.Lframes_BB8_17-.Lframes_JTI8_0
+	.long	.Lframes_BB8_18-.Lframes_JTI8_0
 
 	.type	.Lframes_switch.table.roots.fourth_roots,@object
 	.section	.rodata.frames..Lswitch.table.roots.fourth_roots,"a",@progbits
@@ -9748,58 +9760,58 @@ loamchalice.filter.calculations.from_pixels:
 .Lfilter_BB3_8:
 	cmpq	$383, %r12
 	ja	.Lfilter_BB3_14
-	movb	$10, 808(%rsp)
+	movb	$11, 808(%rsp)
 	movq	%r12, 816(%rsp)
 	jmp	.Lfilter_BB3_22
 .Lfilter_BB3_10:
 	cmpq	$383, %r12
 	movq	72(%rsp), %r11
 	ja	.Lfilter_BB3_16
-	movb	$10, 808(%rsp)
+	movb	$11, 808(%rsp)
 	movq	%r12, 816(%rsp)
 	jmp	.Lfilter_BB3_34
 .Lfilter_BB3_12:
 	cmpq	$383, %r12
 	ja	.Lfilter_BB3_18
-	movb	$10, 808(%rsp)
+	movb	$11, 808(%rsp)
 	movq	%r12, 816(%rsp)
 	jmp	.Lfilter_BB3_54
 .Lfilter_BB3_14:
 	cmpq	$191, %rax
 	ja	.Lfilter_BB3_20
-	movb	$10, 808(%rsp)
+	movb	$11, 808(%rsp)
 	movq	%rax, 816(%rsp)
 	jmp	.Lfilter_BB3_22
 .Lfilter_BB3_16:
 	cmpq	$191, %rax
 	ja	.Lfilter_BB3_32
-	movb	$10, 808(%rsp)
+	movb	$11, 808(%rsp)
 	movq	%rax, 816(%rsp)
 	jmp	.Lfilter_BB3_34
 .Lfilter_BB3_18:
 	cmpq	$191, %rax
 	ja	.Lfilter_BB3_52
-	movb	$10, 808(%rsp)
+	movb	$11, 808(%rsp)
 	movq	%rax, 816(%rsp)
 	jmp	.Lfilter_BB3_54
 .Lfilter_BB3_20:
 	movb	$1, %sil
 	cmpq	$191, %r15
 	ja	.Lfilter_BB3_23
-	movb	$10, 808(%rsp)
+	movb	$11, 808(%rsp)
 	movq	%r15, 816(%rsp)
 .Lfilter_BB3_22:
 	xorl	%esi, %esi
 .Lfilter_BB3_23:
-	movb	$5, 168(%rsp)
+	movb	$6, 168(%rsp)
 	movq	%rdi, 176(%rsp)
 	movl	%r14d, %eax
 	subl	%r9d, %eax
 	movswl	%ax, %edx
-	movb	$6, %cl
+	movb	$7, %cl
 	cmpl	%eax, %edx
 	jne	.Lfilter_BB3_29
-	movb	$7, %cl
+	movb	$8, %cl
 	testw	%r8w, %r8w
 	je	.Lfilter_BB3_29
 	cmpw	$0, 352(%rsp)
@@ -9852,20 +9864,20 @@ loamchalice.filter.calculations.from_pixels:
 	movb	$1, %sil
 	cmpq	$191, %r15
 	ja	.Lfilter_BB3_35
-	movb	$10, 808(%rsp)
+	movb	$11, 808(%rsp)
 	movq	%r15, 816(%rsp)
 .Lfilter_BB3_34:
 	xorl	%esi, %esi
 .Lfilter_BB3_35:
-	movb	$5, 168(%rsp)
+	movb	$6, 168(%rsp)
 	movq	%rdi, 176(%rsp)
 	movl	%r14d, %eax
 	subl	%r9d, %eax
 	movswl	%ax, %edx
-	movb	$6, %cl
+	movb	$7, %cl
 	cmpl	%eax, %edx
 	jne	.Lfilter_BB3_41
-	movb	$7, %cl
+	movb	$8, %cl
 	testw	%r8w, %r8w
 	je	.Lfilter_BB3_41
 	cmpw	$0, 352(%rsp)
@@ -9935,11 +9947,11 @@ loamchalice.filter.calculations.from_pixels:
 	movl	$7, %eax
 	cmpw	%dx, 30(%rsp)
 	jle	.Lfilter_BB3_50
-	movb	$12, 424(%rsp)
+	movb	$13, 424(%rsp)
 	xorl	%r12d, %r12d
 	jmp	.Lfilter_BB3_51
 .Lfilter_BB3_50:
-	movb	$12, 424(%rsp)
+	movb	$13, 424(%rsp)
 	movq	%rax, 432(%rsp)
 	movb	$1, %r12b
 .Lfilter_BB3_51:
@@ -9954,7 +9966,7 @@ loamchalice.filter.calculations.from_pixels:
 	movb	$1, %sil
 	cmpq	$191, %r15
 	ja	.Lfilter_BB3_55
-	movb	$10, 808(%rsp)
+	movb	$11, 808(%rsp)
 	movq	%r15, 816(%rsp)
 .Lfilter_BB3_54:
 	xorl	%esi, %esi
@@ -9962,10 +9974,10 @@ loamchalice.filter.calculations.from_pixels:
 	movl	%r14d, %eax
 	subl	%r9d, %eax
 	movswl	%ax, %edx
-	movb	$6, %cl
+	movb	$7, %cl
 	cmpl	%eax, %edx
 	jne	.Lfilter_BB3_61
-	movb	$7, %cl
+	movb	$8, %cl
 	testw	%r8w, %r8w
 	je	.Lfilter_BB3_61
 	cmpw	$0, 352(%rsp)
@@ -12833,61 +12845,64 @@ loamchalice_filtered_pixels_to_ir_data:
 	jmpq	*%rdi
 .Lfilter_BB7_6:
 	movl	$1, %edx
-	jmp	.Lfilter_BB7_21
+	jmp	.Lfilter_BB7_22
 .Lfilter_BB7_4:
 	movl	156(%rsp), %eax
 	xorl	%ecx, %ecx
 	xorl	%edx, %edx
-	jmp	.Lfilter_BB7_23
+	jmp	.Lfilter_BB7_24
 .Lfilter_BB7_20:
-	movl	$14, %edx
-	jmp	.Lfilter_BB7_21
-.Lfilter_BB7_12:
-	movl	$7, %edx
-	jmp	.Lfilter_BB7_8
-.Lfilter_BB7_17:
-	movl	$11, %edx
-	jmp	.Lfilter_BB7_21
-.Lfilter_BB7_11:
-	movl	$6, %edx
-	jmp	.Lfilter_BB7_21
-.Lfilter_BB7_18:
-	movl	$12, %edx
-	jmp	.Lfilter_BB7_21
-.Lfilter_BB7_15:
-	movl	$9, %edx
+	movl	$13, %edx
 	jmp	.Lfilter_BB7_22
-.Lfilter_BB7_9:
-	movl	$3, %edx
+.Lfilter_BB7_17:
+	movl	$10, %edx
+	jmp	.Lfilter_BB7_22
+.Lfilter_BB7_10:
+	movzwl	%dx, %ecx
+	movl	$4, %edx
+	jmp	.Lfilter_BB7_22
+.Lfilter_BB7_18:
+	movl	$11, %edx
+	jmp	.Lfilter_BB7_22
+.Lfilter_BB7_15:
+	movzwl	%dx, %ecx
+	movl	$9, %edx
 	jmp	.Lfilter_BB7_22
 .Lfilter_BB7_7:
 	movl	$2, %edx
 	jmp	.Lfilter_BB7_8
-.Lfilter_BB7_10:
-	movzwl	%dx, %ecx
-	movl	$4, %edx
-	jmp	.Lfilter_BB7_21
+.Lfilter_BB7_21:
+	movl	$14, %edx
+	jmp	.Lfilter_BB7_22
+.Lfilter_BB7_9:
+	movl	$3, %edx
+	jmp	.Lfilter_BB7_23
 .Lfilter_BB7_13:
+	movl	$7, %edx
+	jmp	.Lfilter_BB7_8
+.Lfilter_BB7_11:
+	movl	$5, %edx
+	jmp	.Lfilter_BB7_22
+.Lfilter_BB7_19:
+	movl	$12, %edx
+	jmp	.Lfilter_BB7_22
+.Lfilter_BB7_12:
+	movl	$6, %edx
+.Lfilter_BB7_22:
+	xorl	%esi, %esi
+	jmp	.Lfilter_BB7_23
+.Lfilter_BB7_16:
+	movl	$9, %edx
+	jmp	.Lfilter_BB7_23
+.Lfilter_BB7_14:
 	movl	$8, %edx
 .Lfilter_BB7_8:
 	xorl	%esi, %esi
 	xorl	%ecx, %ecx
-	jmp	.Lfilter_BB7_22
-.Lfilter_BB7_19:
-	movl	$13, %edx
-	jmp	.Lfilter_BB7_21
-.Lfilter_BB7_16:
-	movl	$10, %edx
-	jmp	.Lfilter_BB7_21
-.Lfilter_BB7_14:
-	movzwl	%dx, %ecx
-	movl	$9, %edx
-.Lfilter_BB7_21:
-	xorl	%esi, %esi
-.Lfilter_BB7_22:
+.Lfilter_BB7_23:
 	movzwl	%si, %r14d
 	xorl	%edi, %edi
-.Lfilter_BB7_23:
+.Lfilter_BB7_24:
 	movq	%rdx, (%rbx)
 	movq	%rcx, 8(%rbx)
 	movq	%r14, 16(%rbx)
@@ -12922,6 +12937,7 @@ loamchalice_filtered_pixels_to_ir_data:
 	.long	.Lfilter_BB7_18-.Lfilter_JTI7_0
 	.long	.Lfilter_BB7_19-.Lfilter_JTI7_0
 	.long	.Lfilter_BB7_20-.Lfilter_JTI7_0
+	.long	.Lfilter_BB7_21-.Lfilter_JTI7_0
 
 	.section	.text.loamchalice_filtered_pixels_to_ranged_temperatures,"ax",@progbits
 	.globl	loamchalice_filtered_pixels_to_ranged_temperatures
@@ -13043,62 +13059,65 @@ loamchalice_filtered_pixels_to_ranged_temperatures:
 	jmpq	*%rdi
 .Lfilter_BB8_6:
 	movl	$1, %edx
-	jmp	.Lfilter_BB8_21
+	jmp	.Lfilter_BB8_22
 .Lfilter_BB8_4:
 	movl	156(%rsp), %eax
 	xorl	%esi, %esi
 	xorl	%ecx, %ecx
 	xorl	%edx, %edx
-	jmp	.Lfilter_BB8_23
+	jmp	.Lfilter_BB8_24
 .Lfilter_BB8_20:
-	movl	$14, %edx
-	jmp	.Lfilter_BB8_21
-.Lfilter_BB8_12:
-	movl	$7, %edx
-	jmp	.Lfilter_BB8_8
-.Lfilter_BB8_17:
-	movl	$11, %edx
-	jmp	.Lfilter_BB8_21
-.Lfilter_BB8_11:
-	movl	$6, %edx
-	jmp	.Lfilter_BB8_21
-.Lfilter_BB8_18:
-	movl	$12, %edx
-	jmp	.Lfilter_BB8_21
-.Lfilter_BB8_15:
-	movl	$9, %edx
+	movl	$13, %edx
 	jmp	.Lfilter_BB8_22
-.Lfilter_BB8_9:
-	movl	$3, %edx
+.Lfilter_BB8_17:
+	movl	$10, %edx
+	jmp	.Lfilter_BB8_22
+.Lfilter_BB8_10:
+	movzwl	%dx, %ecx
+	movl	$4, %edx
+	jmp	.Lfilter_BB8_22
+.Lfilter_BB8_18:
+	movl	$11, %edx
+	jmp	.Lfilter_BB8_22
+.Lfilter_BB8_15:
+	movzwl	%dx, %ecx
+	movl	$9, %edx
 	jmp	.Lfilter_BB8_22
 .Lfilter_BB8_7:
 	movl	$2, %edx
 	jmp	.Lfilter_BB8_8
-.Lfilter_BB8_10:
-	movzwl	%dx, %ecx
-	movl	$4, %edx
-	jmp	.Lfilter_BB8_21
+.Lfilter_BB8_21:
+	movl	$14, %edx
+	jmp	.Lfilter_BB8_22
+.Lfilter_BB8_9:
+	movl	$3, %edx
+	jmp	.Lfilter_BB8_23
 .Lfilter_BB8_13:
+	movl	$7, %edx
+	jmp	.Lfilter_BB8_8
+.Lfilter_BB8_11:
+	movl	$5, %edx
+	jmp	.Lfilter_BB8_22
+.Lfilter_BB8_19:
+	movl	$12, %edx
+	jmp	.Lfilter_BB8_22
+.Lfilter_BB8_12:
+	movl	$6, %edx
+.Lfilter_BB8_22:
+	xorl	%esi, %esi
+	jmp	.Lfilter_BB8_23
+.Lfilter_BB8_16:
+	movl	$9, %edx
+	jmp	.Lfilter_BB8_23
+.Lfilter_BB8_14:
 	movl	$8, %edx
 .Lfilter_BB8_8:
 	xorl	%esi, %esi
 	xorl	%ecx, %ecx
-	jmp	.Lfilter_BB8_22
-.Lfilter_BB8_19:
-	movl	$13, %edx
-	jmp	.Lfilter_BB8_21
-.Lfilter_BB8_16:
-	movl	$10, %edx
-	jmp	.Lfilter_BB8_21
-.Lfilter_BB8_14:
-	movzwl	%dx, %ecx
-	movl	$9, %edx
-.Lfilter_BB8_21:
-	xorl	%esi, %esi
-.Lfilter_BB8_22:
+.Lfilter_BB8_23:
 	movzwl	%si, %esi
 	xorl	%edi, %edi
-.Lfilter_BB8_23:
+.Lfilter_BB8_24:
 	movq	%rdx, (%rbx)
 	movq	%rcx, 8(%rbx)
 	movq	%rsi, 16(%rbx)
@@ -13133,6 +13152,7 @@ loamchalice_filtered_pixels_to_ranged_temperatures:
 	.long	.Lfilter_BB8_18-.Lfilter_JTI8_0
 	.long	.Lfilter_BB8_19-.Lfilter_JTI8_0
 	.long	.Lfilter_BB8_20-.Lfilter_JTI8_0
+	.long	.Lfilter_BB8_21-.Lfilter_JTI8_0
 
 	.section	.text.loamchalice_filtered_pixels_to_temperatures,"ax",@progbits
 	.globl	loamchalice_filtered_pixels_to_temperatures
@@ -13254,62 +13274,65 @@ loamchalice_filtered_pixels_to_temperatures:
 	jmpq	*%rdi
 .Lfilter_BB9_6:
 	movl	$1, %edx
-	jmp	.Lfilter_BB9_21
+	jmp	.Lfilter_BB9_22
 .Lfilter_BB9_4:
 	movl	156(%rsp), %eax
 	xorl	%esi, %esi
 	xorl	%ecx, %ecx
 	xorl	%edx, %edx
-	jmp	.Lfilter_BB9_23
+	jmp	.Lfilter_BB9_24
 .Lfilter_BB9_20:
-	movl	$14, %edx
-	jmp	.Lfilter_BB9_21
-.Lfilter_BB9_12:
-	movl	$7, %edx
-	jmp	.Lfilter_BB9_8
-.Lfilter_BB9_17:
-	movl	$11, %edx
-	jmp	.Lfilter_BB9_21
-.Lfilter_BB9_11:
-	movl	$6, %edx
-	jmp	.Lfilter_BB9_21
-.Lfilter_BB9_18:
-	movl	$12, %edx
-	jmp	.Lfilter_BB9_21
-.Lfilter_BB9_15:
-	movl	$9, %edx
+	movl	$13, %edx
 	jmp	.Lfilter_BB9_22
-.Lfilter_BB9_9:
-	movl	$3, %edx
+.Lfilter_BB9_17:
+	movl	$10, %edx
+	jmp	.Lfilter_BB9_22
+.Lfilter_BB9_10:
+	movzwl	%dx, %ecx
+	movl	$4, %edx
+	jmp	.Lfilter_BB9_22
+.Lfilter_BB9_18:
+	movl	$11, %edx
+	jmp	.Lfilter_BB9_22
+.Lfilter_BB9_15:
+	movzwl	%dx, %ecx
+	movl	$9, %edx
 	jmp	.Lfilter_BB9_22
 .Lfilter_BB9_7:
 	movl	$2, %edx
 	jmp	.Lfilter_BB9_8
-.Lfilter_BB9_10:
-	movzwl	%dx, %ecx
-	movl	$4, %edx
-	jmp	.Lfilter_BB9_21
+.Lfilter_BB9_21:
+	movl	$14, %edx
+	jmp	.Lfilter_BB9_22
+.Lfilter_BB9_9:
+	movl	$3, %edx
+	jmp	.Lfilter_BB9_23
 .Lfilter_BB9_13:
+	movl	$7, %edx
+	jmp	.Lfilter_BB9_8
+.Lfilter_BB9_11:
+	movl	$5, %edx
+	jmp	.Lfilter_BB9_22
+.Lfilter_BB9_19:
+	movl	$12, %edx
+	jmp	.Lfilter_BB9_22
+.Lfilter_BB9_12:
+	movl	$6, %edx
+.Lfilter_BB9_22:
+	xorl	%esi, %esi
+	jmp	.Lfilter_BB9_23
+.Lfilter_BB9_16:
+	movl	$9, %edx
+	jmp	.Lfilter_BB9_23
+.Lfilter_BB9_14:
 	movl	$8, %edx
 .Lfilter_BB9_8:
 	xorl	%esi, %esi
 	xorl	%ecx, %ecx
-	jmp	.Lfilter_BB9_22
-.Lfilter_BB9_19:
-	movl	$13, %edx
-	jmp	.Lfilter_BB9_21
-.Lfilter_BB9_16:
-	movl	$10, %edx
-	jmp	.Lfilter_BB9_21
-.Lfilter_BB9_14:
-	movzwl	%dx, %ecx
-	movl	$9, %edx
-.Lfilter_BB9_21:
-	xorl	%esi, %esi
-.Lfilter_BB9_22:
+.Lfilter_BB9_23:
 	movzwl	%si, %esi
 	xorl	%edi, %edi
-.Lfilter_BB9_23:
+.Lfilter_BB9_24:
 	movq	%rdx, (%rbx)
 	movq	%rcx, 8(%rbx)
 	movq	%rsi, 16(%rbx)
@@ -13344,6 +13367,7 @@ loamchalice_filtered_pixels_to_temperatures:
 	.long	.Lfilter_BB9_18-.Lfilter_JTI9_0
 	.long	.Lfilter_BB9_19-.Lfilter_JTI9_0
 	.long	.Lfilter_BB9_20-.Lfilter_JTI9_0
+	.long	.Lfilter_BB9_21-.Lfilter_JTI9_0
 
 	.type	.Lfilter_switch.table.roots.fourth_roots,@object
 	.section	.rodata.filter..Lswitch.table.roots.fourth_roots,"a",@progbits
