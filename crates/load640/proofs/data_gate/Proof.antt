@@ -12,10 +12,6 @@ use Rattle.load640.specs.Load.{rangeCount, zeroRange, dataTests}
 use borrow.Author.Needs.{needs}
 use Rattle.load640.proofs.data_gate.Statement.{statement}
 use Rattle.load640.proofs.data_gate.Tie as tie
-use Rattle.load640.proofs.data_gate.Reads as reads
-use Rattle.load640.proofs.data_gate.Lts as lts
-use Rattle.record640.proofs.zero_factor.Reads as zero-factor-reads
-use Rattle.sums640.proofs.first_outside.Reads as first-outside-reads
 
 -- the tests, line by line
 module _ (w : ℕ → ℕ) (range : ℕ) where
@@ -44,31 +40,19 @@ small c = let e = c .before .first-outside .ensures in omega arith
 inside : (c : tie.Else2) → c .before .before .before .before .args .basic-range < rangeCount
 inside c = omega arith
 
--- src/lib.rt:41:9
-first-outside-requires : tie.Need-first-outside-requires
-first-outside-requires c κs = search needs
-
--- src/lib.rt:43:9
 returns : tie.Need-returns
 returns c = let a = c .before .before .before .args in large (wordAt (a .image .now)) (a .basic-range) _ (c .before .first-outside .ensures) (omega arith)
 
--- src/lib.rt:46:9
 returns-2 : tie.Need-returns-2
 returns-2 c = let a = c .before .before .before .before .args in no-range (wordAt (a .image .now)) (a .basic-range) (small (c .before)) (omega arith)
 
--- src/lib.rt:48:9
-zero-factor-requires : tie.Need-zero-factor-requires
-zero-factor-requires c κs = search needs
-
--- src/lib.rt:50:9
 returns-3 : tie.Need-returns-3
 returns-3 c = let i = c .before .before in let a = i .before .before .before .before .args in zero (wordAt (a .image .now)) (a .basic-range) (small (i .before)) (inside i) _ (c .before .zero-factor .ensures) (omega arith)
 
--- src/lib.rt:37:1
 returns-4 : tie.Need-returns-4
 returns-4 c = let i = c .before .before in let a = i .before .before .before .before .args in let e = c .before .zero-factor .ensures in none (wordAt (a .image .now)) (a .basic-range) (small (i .before)) (inside i) (omega arith)
 
 pub data-gate-spec : {M : Type 1} → statement M
 data-gate-spec =
     tie.close
-    (tie.spec first-outside-requires returns returns-2 zero-factor-requires returns-3 returns-4)
+    (tie.spec (λ c κs. search needs) returns returns-2 (λ c κs. search needs) returns-3 returns-4)

@@ -15,10 +15,6 @@ use Rattle.load640.specs.Load.{imageBytes, dataTests, loadTests}
 use borrow.Author.Needs.{needs}
 use Rattle.load640.proofs.gate.Statement.{statement}
 use Rattle.load640.proofs.gate.Tie as tie
-use Rattle.load640.proofs.gate.Reads as reads
-use Rattle.load640.proofs.gate.Lts as lts
-use Rattle.load640.proofs.data_gate.Reads as data-gate-reads
-use Rattle.sums640.proofs.fill_shared.Reads as fill-shared-reads
 
 -- the tests, line by line
 module _ (image : List ℕ) (range table : ℕ) where
@@ -47,31 +43,16 @@ table-short c = omega arith
 table-long : (c : tie.Else2) → pixelCount ≤ c .before .before .before .args .table
 table-long c = omega arith
 
--- src/lib.rt:63:9
 returns : tie.Need-returns
 returns c = let s = c .before .before in (short-image (s .args .image .now) (s .args .basic-range) (s .args .table) (image-short c), λ p. absurd (never _ p))
 
--- src/lib.rt:66:9
 returns-2 : tie.Need-returns-2
 returns-2 c = let s = c .before .before .before in (short-table (s .args .image .now) (s .args .basic-range) (s .args .table) (image-long (c .before)) (table-short c), λ p. absurd (never _ p))
 
--- src/lib.rt:68:5
-fill-shared-requires : tie.Need-fill-shared-requires
-fill-shared-requires c κs = search needs
-
--- src/lib.rt:69:5
-data-gate-requires : tie.Need-data-gate-requires
-data-gate-requires c κs = search needs
-
--- src/lib.rt:56:1
-same-length : tie.Need-same-length
-same-length c = search needs
-
--- src/lib.rt:56:1
 returns-3 : tie.Need-returns-3
 returns-3 c = let d = c .before .before .before in let s = d .before .before .before .before .before in (c .data-gate .ensures ∙ of-data (s .args .image .now) (s .args .basic-range) (s .args .table) (image-long (d .before .before .before)) (table-long (d .before .before)), λ p. d .fill-shared .ensures)
 
 pub gate-spec : {M : Type 1} → statement M
 gate-spec =
     tie.close
-    (tie.spec returns returns-2 fill-shared-requires data-gate-requires same-length returns-3)
+    (tie.spec returns returns-2 (λ c κs. search needs) (λ c κs. search needs) (λ c. search needs) returns-3)

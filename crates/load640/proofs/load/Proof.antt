@@ -9,12 +9,6 @@ use Rattle.load640.proofs.Opened.{opened}
 use borrow.Author.Needs.{needs}
 use Rattle.load640.proofs.load.Statement.{statement}
 use Rattle.load640.proofs.load.Tie as tie
-use Rattle.load640.proofs.load.Reads as reads
-use Rattle.load640.proofs.load.Lts as lts
-use Rattle.load640.proofs.fill_all.Reads as fill-all-reads
-use Rattle.load640.proofs.gate.Reads as gate-reads
-use Rattle.load640.proofs.shortest_of.Reads as shortest-of-reads
-use Rattle.record640.proofs.no_calibration.Reads as no-calibration-reads
 
 module _ (c : tie.After-gate) where
   abbrev start : tie.Start
@@ -35,30 +29,6 @@ module _ (c : tie.After-gate) where
   passed : c .gate .result ≡ Pass → Passed image range lent
   passed e = opened image range lent (sym gated ∙ e)
 
--- src/lib.rt:104:9
-shortest-of-requires : tie.Need-shortest-of-requires
-shortest-of-requires c κs = search needs
-
--- src/lib.rt:106:51
-slice-aggregate-gate : tie.Need-slice-aggregate-gate
-slice-aggregate-gate c = search needs
-
--- src/lib.rt:106:9
-gate-requires : tie.Need-gate-requires
-gate-requires c κs = search needs
-
-enum-told : tie.Need-enum-told
-enum-told c = search needs
-
--- src/lib.rt:108:13
-enum-told-2 : tie.Need-enum-told-2
-enum-told-2 c = search needs
-
--- src/lib.rt:108:13
-no-calibration-requires : tie.Need-no-calibration-requires
-no-calibration-requires c κs = search needs
-
--- src/lib.rt:109:9
 returns : tie.Need-returns
 returns c =
     let e = c .before .enum-told2 .given .1 in
@@ -68,11 +38,6 @@ returns c =
       lent = rw e;
     }
 
--- src/lib.rt:114:52
-slice-aggregate-fill-all : tie.Need-slice-aggregate-fill-all
-slice-aggregate-fill-all c = search needs
-
--- src/lib.rt:114:9
 fill-all-requires : tie.Need-fill-all-requires
 fill-all-requires c κs =
     let p = c .before .before .before .before in
@@ -80,19 +45,6 @@ fill-all-requires c κs =
     let e = p .enum-told .given .1 in
     (passed g e, (search needs, g .gate .ensures .1 e))
 
--- src/lib.rt:94:1
-same-length : tie.Need-same-length
-same-length c = search needs
-
--- src/lib.rt:94:1
-same-length-2 : tie.Need-same-length-2
-same-length-2 c = search needs
-
--- src/lib.rt:94:1
-same-length-3 : tie.Need-same-length-3
-same-length-3 c = search needs
-
--- src/lib.rt:94:1
 returns-2 : tie.Need-returns-2
 returns-2 c =
     let f = c .before .before .before .before .before in
@@ -108,16 +60,16 @@ pub load-spec : {M : Type 1} → statement M
 load-spec =
     tie.close
     (tie.spec
-    shortest-of-requires
-    slice-aggregate-gate
-    gate-requires
-    enum-told
-    enum-told-2
-    no-calibration-requires
+    (λ c κs. search needs)
+    (λ c. search needs)
+    (λ c κs. search needs)
+    (λ c. search needs)
+    (λ c. search needs)
+    (λ c κs. search needs)
     returns
-    slice-aggregate-fill-all
+    (λ c. search needs)
     fill-all-requires
-    same-length
-    same-length-2
-    same-length-3
+    (λ c. search needs)
+    (λ c. search needs)
+    (λ c. search needs)
     returns-2)

@@ -12,41 +12,11 @@ use Rattle.record640.specs.Record.{cornersAt, kSTos, coefficientsOf}
 use borrow.Author.Needs.{needs}
 use Rattle.record640.proofs.coefficients.Statement.{statement}
 use Rattle.record640.proofs.coefficients.Tie as tie
-use Rattle.record640.proofs.coefficients.Reads as reads
-use Rattle.record640.proofs.coefficients.Lts as lts
-use Rattle.ranges.proofs.coefficients.Reads as coefficients-reads
-use Rattle.record640.proofs.corners_of.Reads as corners-of-reads
-use Rattle.record640.proofs.k_s_to.Reads as k-s-to-reads
 
 four : (f : ℕ → Float) (x : Float) → filled f 4 (replicate 4 x) ≡ f 0 ∷ f 1 ∷ f 2 ∷ f 3 ∷ []
 unfolding written
 four f x = refl
 
--- src/lib.rt:205:31
-corners-of-requires : tie.Need-corners-of-requires
-corners-of-requires c κs = search needs
-
--- src/lib.rt:206:18
-k-s-to-requires : tie.Need-k-s-to-requires
-k-s-to-requires c κs = search needs
-
--- src/lib.rt:210:9
-slice-aggregate-coefficients : tie.Need-slice-aggregate-coefficients
-slice-aggregate-coefficients c = search needs
-
--- src/lib.rt:211:9
-slice-aggregate-coefficients-2 : tie.Need-slice-aggregate-coefficients-2
-slice-aggregate-coefficients-2 c = search needs
-
--- src/lib.rt:213:9
-slice-aggregate-coefficients-3 : tie.Need-slice-aggregate-coefficients-3
-slice-aggregate-coefficients-3 c = search needs
-
--- src/lib.rt:208:5
-coefficients-requires : tie.Need-coefficients-requires
-coefficients-requires c κs = search needs
-
--- src/lib.rt:201:1
 returns : tie.Need-returns
 unfolding coefficientsOf
 returns c =
@@ -56,10 +26,10 @@ pub coefficients-spec : {M : Type 1} → statement M
 coefficients-spec =
     tie.close
     (tie.spec
-    corners-of-requires
-    k-s-to-requires
-    slice-aggregate-coefficients
-    slice-aggregate-coefficients-2
-    slice-aggregate-coefficients-3
-    coefficients-requires
+    (λ c κs. search needs)
+    (λ c κs. search needs)
+    (λ c. search needs)
+    (λ c. search needs)
+    (λ c. search needs)
+    (λ c κs. search needs)
     returns)

@@ -12,8 +12,6 @@ use Rattle.record640.specs.Record.{stepOf, cornersOf}
 use borrow.Author.Needs.{needs}
 use Rattle.record640.proofs.corners.Statement.{statement}
 use Rattle.record640.proofs.corners.Tie as tie
-use Rattle.record640.proofs.corners.Reads as reads
-use Rattle.record640.proofs.corners.Lts as lts
 
 most : (m n : ℕ) → m % 16 * stepOf n ≤ 15 * 30
 most m n =
@@ -21,34 +19,24 @@ most m n =
     let q : stepOf n ≤ 30 = (let h : n / 4096 % 4 < 4 = mod-lt (n / 4096) (omega arith) in omega arith) in
     le-trans (mul-le-mul-left (m % 16) q) (mul-le-mul-right 30 p)
 
--- src/lib.rt:155:16
-mul-step : tie.Need-mul-step
-mul-step c = search needs
-
--- src/lib.rt:156:18
 mul-second : tie.Need-mul-second
 mul-second c = record { fits = omega (arith, most (c .args .word / 16) (c .args .word)) }
 
--- src/lib.rt:157:17
 mul-third : tie.Need-mul-third
 mul-third c = record { fits = omega (arith, most (c .args .word / 256) (c .args .word)) }
 
--- src/lib.rt:157:17
 add-third : tie.Need-add-third
 add-third c = record { fits = omega (arith, most (c .args .word / 256) (c .args .word), most (c .args .word / 16) (c .args .word)) }
 
--- src/lib.rt:158:14
 cast-t8 : tie.Need-cast-t8
 cast-t8 c = sfits-of (omega (arith, most (c .args .word / 16) (c .args .word)))
 
--- src/lib.rt:158:29
 cast-t9 : tie.Need-cast-t9
 cast-t9 c = sfits-of (omega (arith, most (c .args .word / 256) (c .args .word), most (c .args .word / 16) (c .args .word)))
 
--- src/lib.rt:152:1
 returns : tie.Need-returns
 unfolding cornersOf
 returns c = let n = c .args .word in rw (toZ-pos w16 (n / 16 % 16 * stepOf n) (omega (arith, most (n / 16) n)), toZ-pos w16 (n / 256 % 16 * stepOf n + n / 16 % 16 * stepOf n) (omega (arith, most (n / 256) n, most (n / 16) n)))
 
 pub corners-spec : {M : Type 1} → statement M
-corners-spec = tie.close (tie.spec mul-step mul-second mul-third add-third cast-t8 cast-t9 returns)
+corners-spec = tie.close (tie.spec (λ c. search needs) mul-second mul-third add-third cast-t8 cast-t9 returns)

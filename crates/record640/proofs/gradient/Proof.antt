@@ -6,23 +6,14 @@ use Rattle.record640.specs.Record.{gradientOf}
 use borrow.Author.Needs.{needs}
 use Rattle.record640.proofs.gradient.Statement.{statement}
 use Rattle.record640.proofs.gradient.Tie as tie
-use Rattle.record640.proofs.gradient.Reads as reads
-use Rattle.record640.proofs.gradient.Lts as lts
-use Rattle.record640.proofs.over.Reads as over-reads
 
--- src/lib.rt:130:9
 returns : tie.Need-returns
 unfolding gradientOf
 returns c = rw (eq-eqb _ 0 (c .if1 .taken))
 
--- src/lib.rt:132:27
-over-requires : tie.Need-over-requires
-over-requires c κs = search needs
-
--- src/lib.rt:126:1
 returns-2 : tie.Need-returns-2
 unfolding gradientOf
 returns-2 c = rw (ne-eqb _ 0 (c .before .if1 .left)) (ap Coefficient (c .over .ensures))
 
 pub gradient-spec : {M : Type 1} → statement M
-gradient-spec = tie.close (tie.spec returns over-requires returns-2)
+gradient-spec = tie.close (tie.spec returns (λ c κs. search needs) returns-2)

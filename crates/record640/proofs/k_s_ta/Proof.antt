@@ -7,23 +7,10 @@ use Rattle.record640.specs.Record.{kSTa}
 use borrow.Author.Needs.{needs}
 use Rattle.record640.proofs.k_s_ta.Statement.{statement}
 use Rattle.record640.proofs.k_s_ta.Tie as tie
-use Rattle.record640.proofs.k_s_ta.Reads as reads
-use Rattle.record640.proofs.k_s_ta.Lts as lts
-use Rattle.record640.proofs.over.Reads as over-reads
-use Rattle.util.proofs.word_at.Reads as word-at-reads
 
--- src/lib.rt:122:10
-word-at-requires : tie.Need-word-at-requires
-word-at-requires c κs = search needs
-
--- src/lib.rt:122:5
-over-requires : tie.Need-over-requires
-over-requires c κs = search needs
-
--- src/lib.rt:118:1
 returns : tie.Need-returns
 unfolding kSTa
 returns c = c .over .ensures ∙ ap (λ (n : ℕ). over (signed 8 (n / 256)) 13) (c .before .word-at .ensures)
 
 pub k-s-ta-spec : {M : Type 1} → statement M
-k-s-ta-spec = tie.close (tie.spec word-at-requires over-requires returns)
+k-s-ta-spec = tie.close (tie.spec (λ c κs. search needs) (λ c κs. search needs) returns)

@@ -16,10 +16,6 @@ use Rattle.record640.specs.Record.{kVDdOf}
 use borrow.Author.Needs.{needs}
 use Rattle.record640.proofs.k_v_dd.Statement.{statement}
 use Rattle.record640.proofs.k_v_dd.Tie as tie
-use Rattle.record640.proofs.k_v_dd.Reads as reads
-use Rattle.record640.proofs.k_v_dd.Lts as lts
-use Rattle.util.proofs.i16_from_bits.Reads as i16-from-bits-reads
-use Rattle.util.proofs.wide.Reads as wide-reads
 
 minus : (r : ℕ) → mag (negℤ (pos r)) ≤ r
 minus zero = omega arith
@@ -38,22 +34,12 @@ value c = ap (λ (z : ℤ). toZ w16 (ofZ w16 z)) (c .i16-from-bits .ensures ∙ 
 small : (c : tie.After-i16-from-bits) → mag (signed 8 (byte c)) < 128
 small c = stands 8 (lit≤ tt) .range (byte c)
 
--- src/lib.rt:24:25
-wide-requires : tie.Need-wide-requires
-wide-requires c κs = search needs
-
--- src/lib.rt:24:5
-i16-from-bits-requires : tie.Need-i16-from-bits-requires
-i16-from-bits-requires c κs = search needs
-
--- src/lib.rt:24:5
 mul-result : tie.Need-mul-result
 mul-result c = rw (value c) (sfits-of (times-32 (signed 8 (byte c)) (small c)))
 
--- src/lib.rt:21:1
 returns : tie.Need-returns
 unfolding kVDdOf
 returns c = rw (value c) (back16 (signed 8 (byte c) *ℤ pos 32) (times-32 (signed 8 (byte c)) (small c)))
 
 pub k-v-dd-spec : {M : Type 1} → statement M
-k-v-dd-spec = tie.close (tie.spec wide-requires i16-from-bits-requires mul-result returns)
+k-v-dd-spec = tie.close (tie.spec (λ c κs. search needs) (λ c κs. search needs) mul-result returns)

@@ -3,10 +3,7 @@ use mathlib.Core.Path.{refl}
 use Rattle.record640.specs.Record.{noCalibration}
 use Rattle.record640.proofs.no_calibration.Statement.{statement}
 use Rattle.record640.proofs.no_calibration.Tie as tie
-use Rattle.record640.proofs.no_calibration.Reads as reads
-use Rattle.record640.proofs.no_calibration.Lts as lts
 
--- src/lib.rt:262:1
 returns : tie.Need-returns
 unfolding noCalibration
 returns c = refl

@@ -16,10 +16,6 @@ use Rattle.record640.specs.Record.{offsetCpsOf}
 use borrow.Author.Needs.{needs}
 use Rattle.record640.proofs.offset_cp.Statement.{statement}
 use Rattle.record640.proofs.offset_cp.Tie as tie
-use Rattle.record640.proofs.offset_cp.Reads as reads
-use Rattle.record640.proofs.offset_cp.Lts as lts
-use Rattle.util.proofs.i16_from_bits.Reads as i16-from-bits-reads
-use Rattle.util.proofs.wide.Reads as wide-reads
 
 first-is : (c : tie.After-i16-from-bits) → toZ w16 (ofZ w16 (c .i16-from-bits .result)) ≡ signed 10 (c .before .before .args .word)
 first-is c = ap (λ (z : ℤ). toZ w16 (ofZ w16 z)) (c .i16-from-bits .ensures ∙ ap (signed 10) (c .before .wide .ensures)) ∙ signed-back 10 _ (lit≤ tt) (lit≤ tt)
@@ -36,27 +32,9 @@ small c =
     let l = sum-mag 511 31 543 (signed 10 n) (signed 6 (n / 1024)) (omega arith) (let h = stands 10 (lit≤ tt) .range n in omega arith) (let h = stands 6 (lit≤ tt) .range (n / 1024) in omega arith) in
     omega arith
 
--- src/lib.rt:114:37
-wide-requires : tie.Need-wide-requires
-wide-requires c κs = search needs
-
--- src/lib.rt:114:9
-i16-from-bits-requires : tie.Need-i16-from-bits-requires
-i16-from-bits-requires c κs = search needs
-
--- src/lib.rt:115:41
-wide-requires-2 : tie.Need-wide-requires-2
-wide-requires-2 c κs = search needs
-
--- src/lib.rt:115:21
-i16-from-bits-requires-2 : tie.Need-i16-from-bits-requires-2
-i16-from-bits-requires-2 c κs = search needs
-
--- src/lib.rt:115:13
 add-t6 : tie.Need-add-t6
 add-t6 c = rw (first-is (c .before .before), delta-is c) (sfits-of (omega (arith, small c)))
 
--- src/lib.rt:111:1
 returns : tie.Need-returns
 unfolding offsetCpsOf
 returns c = rw (first-is (c .before .before), delta-is c, back16 (signed 10 (start c .args .word) +ℤ signed 6 (start c .args .word / 1024)) (omega (arith, small c)))
@@ -65,9 +43,9 @@ pub offset-cp-spec : {M : Type 1} → statement M
 offset-cp-spec =
     tie.close
     (tie.spec
-    wide-requires
-    i16-from-bits-requires
-    wide-requires-2
-    i16-from-bits-requires-2
+    (λ c κs. search needs)
+    (λ c κs. search needs)
+    (λ c κs. search needs)
+    (λ c κs. search needs)
     add-t6
     returns)

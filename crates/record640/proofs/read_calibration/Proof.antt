@@ -18,28 +18,6 @@ use Rattle.record640.specs.Record.{kVDdOf, vDd25Of, alphaPtatOf, wholeOf
 use borrow.Author.Needs.{needs}
 use Rattle.record640.proofs.read_calibration.Statement.{statement}
 use Rattle.record640.proofs.read_calibration.Tie as tie
-use Rattle.record640.proofs.read_calibration.Reads as reads
-use Rattle.record640.proofs.read_calibration.Lts as lts
-use Rattle.mlx90640.proofs.access_pattern_corrections.Reads as access-pattern-corrections-reads
-use Rattle.mlx90640.proofs.interleave_pattern.Reads as interleave-pattern-reads
-use Rattle.record640.proofs.alpha_cp.Reads as alpha-cp-reads
-use Rattle.record640.proofs.alpha_ptat.Reads as alpha-ptat-reads
-use Rattle.record640.proofs.coefficients.Reads as coefficients-reads
-use Rattle.record640.proofs.corners_of.Reads as corners-of-reads
-use Rattle.record640.proofs.gradient.Reads as gradient-reads
-use Rattle.record640.proofs.k_s_ta.Reads as k-s-ta-reads
-use Rattle.record640.proofs.k_s_to.Reads as k-s-to-reads
-use Rattle.record640.proofs.k_t_ptat.Reads as k-t-ptat-reads
-use Rattle.record640.proofs.k_ta_cp.Reads as k-ta-cp-reads
-use Rattle.record640.proofs.k_v.Reads as k-v-reads
-use Rattle.record640.proofs.k_v_cp.Reads as k-v-cp-reads
-use Rattle.record640.proofs.k_v_dd.Reads as k-v-dd-reads
-use Rattle.record640.proofs.k_v_ptat.Reads as k-v-ptat-reads
-use Rattle.record640.proofs.offset_cp.Reads as offset-cp-reads
-use Rattle.record640.proofs.resolution.Reads as resolution-reads
-use Rattle.record640.proofs.v_dd_25.Reads as v-dd-25-reads
-use Rattle.record640.proofs.whole.Reads as whole-reads
-use Rattle.util.proofs.word_at.Reads as word-at-reads
 
 -- a record by its parts
 joined : {a0 b0 : ℤ} {a1 b1 : ℤ} {a2 b2 : ℕ} {a3 b3 : Float} {a4 b4 : Float} {a5 b5 : Float} {a6 b6 : Float} {a7 b7 : Float} {a8 b8 : Float} {a9 b9 : List ℤ} {a10 b10 : List Float} {a11 b11 : List Float} {a12 b12 : List Float} {a13 b13 : List ℤ} {a14 b14 : Float} {a15 b15 : Float} {a16 b16 : Gradient} {a17 b17 : List Float} {a18 b18 : List Float} {a19 b19 : Float} → a0 ≡ b0 → a1 ≡ b1 → a2 ≡ b2 → a3 ≡ b3 → a4 ≡ b4 → a5 ≡ b5 → a6 ≡ b6 → a7 ≡ b7 → a8 ≡ b8 → a9 ≡ b9 → a10 ≡ b10 → a11 ≡ b11 → a12 ≡ b12 → a13 ≡ b13 → a14 ≡ b14 → a15 ≡ b15 → a16 ≡ b16 → a17 ≡ b17 → a18 ≡ b18 → a19 ≡ b19
@@ -49,119 +27,21 @@ joined e0 e1 e2 e3 e4 e5 e6 e7 e8 e9 e10 e11 e12 e13 e14 e15 e16 e17 e18 e19 = r
 corrections-is : (c : tie.After-access-pattern-corrections) → c .access-pattern-corrections .result ≡ correctionsOf (wordAt (c .before .before .before .before .args .image .now) (wordOf Access 0))
 corrections-is c = c .access-pattern-corrections .ensures ∙ ap correctionsOf (c .before .word-at2 .ensures)
 
--- src/lib.rt:235:9
-word-at-requires : tie.Need-word-at-requires
-word-at-requires c κs = search needs
-
--- src/lib.rt:236:60
-word-at-requires-2 : tie.Need-word-at-requires-2
-word-at-requires-2 c κs = search needs
-
--- src/lib.rt:236:9
-access-pattern-corrections-requires : tie.Need-access-pattern-corrections-requires
-access-pattern-corrections-requires c κs = search needs
-
--- src/lib.rt:238:17
-k-v-dd-requires : tie.Need-k-v-dd-requires
-k-v-dd-requires c κs = search needs
-
--- src/lib.rt:239:18
-v-dd-25-requires : tie.Need-v-dd-25-requires
-v-dd-25-requires c κs = search needs
-
--- src/lib.rt:240:32
-word-at-requires-3 : tie.Need-word-at-requires-3
-word-at-requires-3 c κs = search needs
-
--- src/lib.rt:240:21
-resolution-requires : tie.Need-resolution-requires
-resolution-requires c κs = search needs
-
--- src/lib.rt:241:19
-k-v-ptat-requires : tie.Need-k-v-ptat-requires
-k-v-ptat-requires c κs = search needs
-
--- src/lib.rt:242:19
-k-t-ptat-requires : tie.Need-k-t-ptat-requires
-k-t-ptat-requires c κs = search needs
-
--- src/lib.rt:243:26
-word-at-requires-4 : tie.Need-word-at-requires-4
-word-at-requires-4 c κs = search needs
-
--- src/lib.rt:243:20
-whole-requires : tie.Need-whole-requires
-whole-requires c κs = search needs
-
--- src/lib.rt:244:32
-word-at-requires-5 : tie.Need-word-at-requires-5
-word-at-requires-5 c κs = search needs
-
--- src/lib.rt:244:21
-alpha-ptat-requires : tie.Need-alpha-ptat-requires
-alpha-ptat-requires c κs = search needs
-
--- src/lib.rt:245:21
-word-at-requires-6 : tie.Need-word-at-requires-6
-word-at-requires-6 c κs = search needs
-
--- src/lib.rt:245:15
-whole-requires-2 : tie.Need-whole-requires-2
-whole-requires-2 c κs = search needs
-
--- src/lib.rt:246:17
-k-s-ta-requires : tie.Need-k-s-ta-requires
-k-s-ta-requires c κs = search needs
-
--- src/lib.rt:247:30
-corners-of-requires : tie.Need-corners-of-requires
-corners-of-requires c κs = search needs
-
--- src/lib.rt:248:17
-k-s-to-requires : tie.Need-k-s-to-requires
-k-s-to-requires c κs = search needs
-
--- src/lib.rt:249:29
-coefficients-requires : tie.Need-coefficients-requires
-coefficients-requires c κs = search needs
-
--- src/lib.rt:250:19
-alpha-cp-requires : tie.Need-alpha-cp-requires
-alpha-cp-requires c κs = search needs
-
--- src/lib.rt:251:40
 word-at-requires-7 : tie.Need-word-at-requires-7
 word-at-requires-7 c κs = omega (arith, c .before .before .before .before .before .before .before .before .before .before .before .before .before .before .before .before .before .before .before .before .before .pre .0)
 
--- src/lib.rt:251:30
-offset-cp-requires : tie.Need-offset-cp-requires
-offset-cp-requires c κs = search needs
-
--- src/lib.rt:252:17
 k-v-cp-requires : tie.Need-k-v-cp-requires
 k-v-cp-requires c κs = c .before .before .before .before .before .before .before .before .before .before .before .before .before .before .before .before .before .before .before .before .before .before .before .pre .0
 
--- src/lib.rt:253:18
 k-ta-cp-requires : tie.Need-k-ta-cp-requires
 k-ta-cp-requires c κs = c .before .before .before .before .before .before .before .before .before .before .before .before .before .before .before .before .before .before .before .before .before .before .before .before .pre .0
 
--- src/lib.rt:254:52
 word-at-requires-8 : tie.Need-word-at-requires-8
 word-at-requires-8 c κs = omega (arith, c .before .before .before .before .before .before .before .before .before .before .before .before .before .before .before .before .before .before .before .before .before .before .before .before .before .pre .0)
 
--- src/lib.rt:254:43
-gradient-requires : tie.Need-gradient-requires
-gradient-requires c κs = search needs
-
--- src/lib.rt:255:14
 k-v-requires : tie.Need-k-v-requires
 k-v-requires c κs = c .before .before .before .before .before .before .before .before .before .before .before .before .before .before .before .before .before .before .before .before .before .before .before .before .before .before .before .pre .0
 
--- src/lib.rt:256:25
-interleave-pattern-requires : tie.Need-interleave-pattern-requires
-interleave-pattern-requires c κs = search needs
-
--- src/lib.rt:231:1
 returns : tie.Need-returns
 unfolding calibrationOf
 returns c =
@@ -191,32 +71,32 @@ pub read-calibration-spec : {M : Type 1} → statement M
 read-calibration-spec =
     tie.close
     (tie.spec
-    word-at-requires
-    word-at-requires-2
-    access-pattern-corrections-requires
-    k-v-dd-requires
-    v-dd-25-requires
-    word-at-requires-3
-    resolution-requires
-    k-v-ptat-requires
-    k-t-ptat-requires
-    word-at-requires-4
-    whole-requires
-    word-at-requires-5
-    alpha-ptat-requires
-    word-at-requires-6
-    whole-requires-2
-    k-s-ta-requires
-    corners-of-requires
-    k-s-to-requires
-    coefficients-requires
-    alpha-cp-requires
+    (λ c κs. search needs)
+    (λ c κs. search needs)
+    (λ c κs. search needs)
+    (λ c κs. search needs)
+    (λ c κs. search needs)
+    (λ c κs. search needs)
+    (λ c κs. search needs)
+    (λ c κs. search needs)
+    (λ c κs. search needs)
+    (λ c κs. search needs)
+    (λ c κs. search needs)
+    (λ c κs. search needs)
+    (λ c κs. search needs)
+    (λ c κs. search needs)
+    (λ c κs. search needs)
+    (λ c κs. search needs)
+    (λ c κs. search needs)
+    (λ c κs. search needs)
+    (λ c κs. search needs)
+    (λ c κs. search needs)
     word-at-requires-7
-    offset-cp-requires
+    (λ c κs. search needs)
     k-v-cp-requires
     k-ta-cp-requires
     word-at-requires-8
-    gradient-requires
+    (λ c κs. search needs)
     k-v-requires
-    interleave-pattern-requires
+    (λ c κs. search needs)
     returns)

@@ -14,8 +14,6 @@ use Rattle.record640.specs.Record.{vDd25Of}
 use borrow.Author.Needs.{needs}
 use Rattle.record640.proofs.v_dd_25.Statement.{statement}
 use Rattle.record640.proofs.v_dd_25.Tie as tie
-use Rattle.record640.proofs.v_dd_25.Reads as reads
-use Rattle.record640.proofs.v_dd_25.Lts as lts
 
 minus-is : (b : ℕ) → b < 256 → pos b -ℤ pos 256 ≡ negsuc (255 - b)
 minus-is b h = rw (lt-ltb b 256 h) (ap negsuc (omega arith))
@@ -50,25 +48,17 @@ module _ (c : tie.Start) where
   unfolding vDd25Of
   meant = ap (λ (z : ℤ). z *ℤ pos 32 -ℤ pos 8192) (minus-is b byte) ∙ ap (λ (z : ℤ). z -ℤ pos 8192) (times-is (255 - b)) ∙ less-is ((255 - b) * 32 + 31)
 
--- src/lib.rt:31:6
-cast-result : tie.Need-cast-result
-cast-result c = search needs
-
--- src/lib.rt:31:6
 sub-result : tie.Need-sub-result
 sub-result c = rw (first c) (sfits-of (omega arith))
 
--- src/lib.rt:31:5
 mul-result : tie.Need-mul-result
 mul-result c = rw (second c) (sfits-of (omega arith))
 
--- src/lib.rt:31:5
 sub-result-2 : tie.Need-sub-result-2
 sub-result-2 c = rw (third c) (sfits-of (omega arith))
 
--- src/lib.rt:28:1
 returns : tie.Need-returns
 returns c = ap (λ (z : ℤ). toZ w16 (ofZ w16 z)) (third c) ∙ back16 (negsuc ((255 - b c) * 32 + 31 + 8192)) (omega arith) ∙ sym (meant c)
 
 pub v-dd-25-spec : {M : Type 1} → statement M
-v-dd-25-spec = tie.close (tie.spec cast-result sub-result mul-result sub-result-2 returns)
+v-dd-25-spec = tie.close (tie.spec (λ c. search needs) sub-result mul-result sub-result-2 returns)

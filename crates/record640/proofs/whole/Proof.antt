@@ -11,27 +11,10 @@ use Rattle.record640.specs.Record.{wholeOf}
 use borrow.Author.Needs.{needs}
 use Rattle.record640.proofs.whole.Statement.{statement}
 use Rattle.record640.proofs.whole.Tie as tie
-use Rattle.record640.proofs.whole.Reads as reads
-use Rattle.record640.proofs.whole.Lts as lts
-use Rattle.util.proofs.i16_from_bits.Reads as i16-from-bits-reads
-use Rattle.util.proofs.wide.Reads as wide-reads
 
--- src/lib.rt:43:25
-wide-requires : tie.Need-wide-requires
-wide-requires c κs = search needs
-
--- src/lib.rt:43:5
-i16-from-bits-requires : tie.Need-i16-from-bits-requires
-i16-from-bits-requires c κs = search needs
-
--- src/lib.rt:43:5
-int-to-float-result : tie.Need-int-to-float-result
-int-to-float-result c = search needs
-
--- src/lib.rt:40:1
 returns : tie.Need-returns
 unfolding wholeOf
 returns c = let s = c .before .before .before in ap real (ap (λ (z : ℤ). toZ w16 (ofZ w16 z)) (c .before .i16-from-bits .ensures ∙ ap (signed 16) (c .before .before .wide .ensures)) ∙ signed-back 16 (s .args .word) (lit≤ tt) (lit≤ tt))
 
 pub whole-spec : {M : Type 1} → statement M
-whole-spec = tie.close (tie.spec wide-requires i16-from-bits-requires int-to-float-result returns)
+whole-spec = tie.close (tie.spec (λ c κs. search needs) (λ c κs. search needs) (λ c. search needs) returns)
