@@ -3,6 +3,7 @@
 mod given;
 
 use calculations::FilteredInput;
+use calculations::Input;
 use calibration::Calibration;
 use frames::Frame;
 use offsets::Offset;
@@ -26,10 +27,10 @@ fn same_frame(answer: &[u8], frame: Frame, destination: &[u32]) -> usize {
 
 // ---- The calls
 
-fn call<'a>(
+fn plain_call<'a>(
     kind: u16,
     record: Calibration,
-    filtered: FilteredInput,
+    input: Input,
     offsets0: &'a [Offset],
     offsets1: &'a [Offset],
     alpha: &[f32],
@@ -39,22 +40,10 @@ fn call<'a>(
     mask: &[u8],
     destination: &mut [u32],
 ) -> Frame {
-    let input = filtered.input;
     match kind {
         stream::INFRARED => calculations::raw_pixels_to_ir_data(
             record,
             input,
-            offsets0,
-            offsets1,
-            k_v,
-            k_ta,
-            pixels,
-            mask,
-            destination,
-        ),
-        stream::FILTERED_INFRARED => calculations::filtered_pixels_to_ir_data(
-            record,
-            filtered,
             offsets0,
             offsets1,
             k_v,
@@ -75,9 +64,9 @@ fn call<'a>(
             mask,
             destination,
         ),
-        stream::FILTERED_ONE_PASS => calculations::filtered_pixels_to_temperatures(
+        _ => calculations::raw_pixels_to_ranged_temperatures(
             record,
-            filtered,
+            input,
             offsets0,
             offsets1,
             alpha,
@@ -87,9 +76,37 @@ fn call<'a>(
             mask,
             destination,
         ),
-        stream::SECOND_PASS => calculations::raw_pixels_to_ranged_temperatures(
+    }
+}
+
+fn filtered_call<'a>(
+    kind: u16,
+    record: Calibration,
+    filtered: FilteredInput,
+    offsets0: &'a [Offset],
+    offsets1: &'a [Offset],
+    alpha: &[f32],
+    k_v: &[f32],
+    k_ta: &[f32],
+    pixels: &[u8],
+    mask: &[u8],
+    destination: &mut [u32],
+) -> Frame {
+    match kind {
+        stream::FILTERED_INFRARED => calculations::filtered_pixels_to_ir_data(
             record,
-            input,
+            filtered,
+            offsets0,
+            offsets1,
+            k_v,
+            k_ta,
+            pixels,
+            mask,
+            destination,
+        ),
+        stream::FILTERED_ONE_PASS => calculations::filtered_pixels_to_temperatures(
+            record,
+            filtered,
             offsets0,
             offsets1,
             alpha,
@@ -112,6 +129,49 @@ fn call<'a>(
             destination,
         ),
     }
+}
+
+fn call<'a>(
+    kind: u16,
+    record: Calibration,
+    filtered: FilteredInput,
+    offsets0: &'a [Offset],
+    offsets1: &'a [Offset],
+    alpha: &[f32],
+    k_v: &[f32],
+    k_ta: &[f32],
+    pixels: &[u8],
+    mask: &[u8],
+    destination: &mut [u32],
+) -> Frame {
+    if kind < stream::FILTERED_INFRARED {
+        return plain_call(
+            kind,
+            record,
+            filtered.input,
+            offsets0,
+            offsets1,
+            alpha,
+            k_v,
+            k_ta,
+            pixels,
+            mask,
+            destination,
+        );
+    }
+    filtered_call(
+        kind,
+        record,
+        filtered,
+        offsets0,
+        offsets1,
+        alpha,
+        k_v,
+        k_ta,
+        pixels,
+        mask,
+        destination,
+    )
 }
 
 // On the offsets of a camera, as many entries as the frame says.
