@@ -1,3 +1,2 @@
--- AsPlain is a law for readers; Calls leads to the code.
+-- Calls leads to the code.
 mod Calls
-pub mod AsPlain

@@ -1,3 +1,2 @@
--- The MLX90641's frame calls; Filtered says what a filter's average does not change.
+-- The MLX90641's frame calls.
 pub mod Frames
-pub mod Filtered

@@ -1,4 +1,4 @@
--- Single, Demand, Losses, OneOrTwo, NoAverage and Calls are the laws that callers cite; the others lead to the code.
+-- Single, Demand, Losses, OneOrTwo, NoAverage, AsPlain and Calls are the laws that callers cite; the others lead to the code.
 mod Opened
 mod Both
 mod ByWanted
@@ -8,3 +8,4 @@ pub mod Demand
 pub mod Losses
 pub mod OneOrTwo
 pub mod NoAverage
+pub mod AsPlain

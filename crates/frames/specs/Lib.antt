@@ -4,4 +4,5 @@ pub mod Ranged
 pub mod Demand
 pub mod Lost
 pub mod OneOrTwo
+pub mod Filtered
 pub mod Inner

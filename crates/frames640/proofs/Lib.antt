@@ -1,3 +1,4 @@
--- Chess is a law for readers; Calls leads to the code.
+-- Chess and Instances are laws for readers; Calls leads to the code.
 mod Calls
 pub mod Chess
+pub mod Instances
