@@ -537,6 +537,73 @@ static void call_frames(void) {
     eat_frame("filtered_pixels_to_ranged_temperatures", loamchalice_filtered_pixels_to_ranged_temperatures(record, filtered, TABLES, FRAME));
 }
 
+/* The MLX90640's card. */
+#define BIG_ROOM 776 /* of which 768 are taken */
+static int32_t big_offsets[BIG_ROOM];
+static float big_alpha[BIG_ROOM], big_k_ta[BIG_ROOM];
+
+static void put(size_t word, uint64_t bits) {
+    image[2 * word] = (uint8_t)(bits >> 8);
+    image[2 * word + 1] = (uint8_t)bits;
+}
+
+/* Zero but for some words, or all words drawn; mostly with averages and scales with which numbers of pixels stay inside 16 bits. */
+static void draw_big_card(void) {
+    memset(image, 0, sizeof image);
+    if (rarely(3)) {
+        for (uint64_t i = below(40); i > 0; i--) {
+            uint64_t word = rarely(2) ? 16 + below(48) : 64 + below(768);
+            put(word, any());
+        }
+    } else {
+        for (size_t word = 0; word < LOAMCHALICE_WORDS; word++) {
+            put(word, any());
+        }
+    }
+    if (!rarely(6)) {
+        for (size_t first = 16; first <= 32; first += 16) {
+            uint64_t top = below(16), rows = below(11), columns = below(11), rests = below(9);
+            put(first, top << 12 | rows << 8 | columns << 4 | rests);
+            put(first + 1, below(8000) - 4000);
+        }
+        image[2 * 56 + 1] = (uint8_t)((image[2 * 56 + 1] & 0xF0) | below(13));
+    }
+}
+
+static void eat_big_record(const loamchalice_mlx90640_record *r) {
+    const float floats[] = {r->k_v_ptat, r->k_t_ptat, r->v_ptat_25, r->alpha_ptat, r->gain, r->k_s_ta, r->k_v_cp, r->k_ta_cp, r->gradient, r->access_cp};
+    eat_floats(floats, COUNT(floats));
+    eat_floats(r->alpha_cp, 2);
+    eat_floats(r->k_s_to, 4);
+    eat_floats(r->range_coefficients, 4);
+    eat_floats(r->k_v, 4);
+    eat_floats(r->access_pattern, 6);
+    EAT(r->corner_temperatures);
+    EAT(r->offset_reference_cp);
+    EAT(r->k_v_dd);
+    EAT(r->v_dd_25);
+    EAT(r->resolution);
+    EAT(r->has_gradient);
+    EAT(r->unused);
+}
+
+static void call_big_load(void) {
+    draw_big_card();
+    for (int i = 0; i < BIG_ROOM; i++) {
+        big_offsets[i] = i;
+        big_alpha[i] = big_k_ta[i] = (float)i;
+    }
+    size_t bytes = length(LOAMCHALICE_IMAGE_BYTES, BYTES), range = rarely(4) ? below(6) : LOAMCHALICE_MLX90640_BASIC_RANGE;
+    size_t first = length(768, BIG_ROOM), second = length(768, BIG_ROOM), third = length(768, BIG_ROOM);
+    loamchalice_mlx90640_loaded loaded = loamchalice_mlx90640_load(image, bytes, range, big_offsets, first, big_alpha, second, big_k_ta, third);
+    of("mlx90640_load");
+    REFUSAL(loaded);
+    eat_big_record(&loaded.calibration);
+    EAT(big_offsets);
+    eat_floats(big_alpha, BIG_ROOM);
+    eat_floats(big_k_ta, BIG_ROOM);
+}
+
 int main(int argc, char **argv) {
     if (argc != 2 || !read_cards(argv[1])) {
         fprintf(stderr, "usage: digest FOLDER_OF_CARDS\n");
@@ -555,6 +622,9 @@ int main(int argc, char **argv) {
         call_scrub();
         call_reader();
         call_frames();
+    }
+    for (int i = 0; i < ROUNDS; i++) {
+        call_big_load();
     }
     for (size_t i = 0; i < names; i++) {
         const tally *t = &tallies[i];

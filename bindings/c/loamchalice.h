@@ -1,5 +1,5 @@
-/* Loamchalice for C: a chip card of the MLX90641 to a calibration, and its frames to infrared numbers and temperatures; and parts of the
- * MLX90640's card, at the end.
+/* Loamchalice for C: a chip card of the MLX90641 to a calibration, and its frames to infrared numbers and temperatures; and the card of the
+ * MLX90640.
  *
  * A slice is a pointer and a count of entries; with a count of 0 any pointer will do, NULL too. Nothing is kept between calls, and there is
  * no heap. The only misuse that leads anywhere undefined is a wrong pointer or count, or two slices that overlap where one is written.
@@ -11,11 +11,13 @@
  * bytes of the piece.
  *   1  the image is below 1,664 bytes                        place: its length
  *      a list to write has another length than 814, or 18    place: its length
- *   2  a table that the call takes has fewer than 192 entries
+ *   2  a table that the call takes has fewer than 192 entries, of the MLX90640 768
  *      what is lent for a card or its words is too short
  *   3  a chip word is damaged                                place: the word's number, value: its bits
  *   4  the offset scale is 21 or more                        place: the scale
- *   6  the basic range is above 7                            place: the range
+ *   5  of the MLX90640: a pixel's offset, alpha or K_Ta is   place: the first such pixel
+ *      outside 16 bits (see loamchalice_mlx90640_load)
+ *   6  the basic range is above 7, of the MLX90640 above 3   place: the range
  *   7  v_dd_pixel - V_DD25 is outside 16 bits
  *   8  a divisor is zero, or the emissivity is zero or NaN
  *   9  data to encode is above 2047                          place: the data
@@ -29,7 +31,8 @@
  *      never with a basic range of 4 or less
  *  14  the MLX90640 has no such pixel: 768 or more           place: the pixel
  *
- * Pixels stand row by row, 16 a row and 12 rows: pixel 16 x row + column, in the pixel bytes, the mask, the tables and the destination. A destination is
+ * Pixels stand row by row, 16 a row and 12 rows: pixel 16 x row + column, in the pixel bytes, the mask, the tables and the destination (of the MLX90640 32
+ * a row and 24 rows). A destination is
  * lent as the bits of floats, uint32_t, since the bits of a NaN can be lost on the way through a float: loamchalice_float makes a number of them. Every
  * NaN that a call writes is 0x7FC00000.
  *
@@ -302,8 +305,49 @@ loamchalice_answer loamchalice_filtered_pixels_to_ranged_temperatures(
     const float *alpha, size_t alpha_length, const float *k_v, size_t k_v_length, const float *k_ta, size_t k_ta_length,
     const uint8_t *pixels, size_t pixels_length, const uint8_t *mask, size_t mask_length, uint32_t *destination, size_t destination_length);
 
-/* The MLX90640: 32 by 24 pixels, row by row. Its card is not loaded yet; these are the odd parts of it. */
+/* The MLX90640: 32 by 24 pixels, row by row. Its card has LOAMCHALICE_IMAGE_BYTES too, and no check bits: every word is taken as it stands, and a card of the
+ * other camera may load. Its frames have no calls yet. */
 #define LOAMCHALICE_MLX90640_PIXELS 768
+#define LOAMCHALICE_MLX90640_BASIC_RANGE 1
+
+/* Its calibration record, all zero after a refusal. Where has_gradient is 0 there is no gradient, and the coefficient is not looked at. Lists of two are by
+ * the subpage. There is no padding in it, so records can be compared by memcmp. */
+typedef struct {
+    float k_v_ptat;              /* per volt */
+    float k_t_ptat;              /* counts per degree */
+    float v_ptat_25;             /* counts */
+    float alpha_ptat;            /* a ratio */
+    float gain;                  /* counts */
+    float k_s_ta;                /* per degree */
+    float k_v_cp;                /* per volt */
+    float k_ta_cp;               /* per degree */
+    float gradient;              /* a ratio */
+    float access_cp;             /* counts; of the compensation pixel of subpage 1 in interleaved mode */
+    float alpha_cp[2];           /* counts per kelvin to the fourth */
+    float k_s_to[4];             /* per degree */
+    float range_coefficients[4]; /* 1 at the basic range that the card was loaded with */
+    float k_v[4];                /* per volt, by loamchalice_mlx90640_chessboard_entry */
+    float access_pattern[6];     /* counts; of pixels in interleaved mode, by loamchalice_mlx90640_interleave_entry */
+    int16_t corner_temperatures[4]; /* degrees Celsius */
+    int16_t offset_reference_cp[2]; /* counts */
+    int16_t k_v_dd;              /* counts per volt */
+    int16_t v_dd_25;             /* counts */
+    uint8_t resolution;          /* that the card was written at, 0 to 3 */
+    uint8_t has_gradient;
+    uint8_t unused[2];           /* 0; not looked at */
+} loamchalice_mlx90640_record;
+
+typedef struct {
+    uint64_t number, place, value;
+    loamchalice_mlx90640_record calibration;
+} loamchalice_mlx90640_loaded;
+
+/* Loads a card into three tables of 768 entries or more: offsets in counts, alpha in counts per kelvin to the fourth, K_Ta per degree. Entries past 768 stay.
+ * The camera's basic range is LOAMCHALICE_MLX90640_BASIC_RANGE. Refusals 1, 2, 5, 6. 5 is told where one of four whole numbers of a pixel is outside 16 bits:
+ * its offset; average, row and column of its alpha; the rest of its alpha; the sum of its K_Ta. A blank card, all 0xFF, is one of them. */
+loamchalice_mlx90640_loaded loamchalice_mlx90640_load(
+    const uint8_t *image, size_t image_length, size_t basic_range,
+    int32_t *offsets, size_t offsets_length, float *alpha, size_t alpha_length, float *k_ta, size_t k_ta_length);
 
 typedef struct {
     int8_t six;   /* the upper six bits, signed */
@@ -590,6 +634,21 @@ LOAMCHALICE_SIZE(average, 8);
 LOAMCHALICE_ASSERT(LOAMCHALICE_AT(average, average, 0) && LOAMCHALICE_AT(average, ready, 4));
 LOAMCHALICE_SIZE(filtered, 56);
 LOAMCHALICE_ASSERT(LOAMCHALICE_AT(filtered, input, 0) && LOAMCHALICE_AT(filtered, compensation, 48));
+LOAMCHALICE_SIZE(mlx90640_record, 140);
+LOAMCHALICE_ASSERT(LOAMCHALICE_AT(mlx90640_record, k_v_ptat, 0) && LOAMCHALICE_AT(mlx90640_record, k_t_ptat, 4) &&
+                   LOAMCHALICE_AT(mlx90640_record, v_ptat_25, 8) && LOAMCHALICE_AT(mlx90640_record, alpha_ptat, 12) &&
+                   LOAMCHALICE_AT(mlx90640_record, gain, 16) && LOAMCHALICE_AT(mlx90640_record, k_s_ta, 20) &&
+                   LOAMCHALICE_AT(mlx90640_record, k_v_cp, 24) && LOAMCHALICE_AT(mlx90640_record, k_ta_cp, 28) &&
+                   LOAMCHALICE_AT(mlx90640_record, gradient, 32) && LOAMCHALICE_AT(mlx90640_record, access_cp, 36) &&
+                   LOAMCHALICE_AT(mlx90640_record, alpha_cp, 40) && LOAMCHALICE_AT(mlx90640_record, k_s_to, 48) &&
+                   LOAMCHALICE_AT(mlx90640_record, range_coefficients, 64) && LOAMCHALICE_AT(mlx90640_record, k_v, 80) &&
+                   LOAMCHALICE_AT(mlx90640_record, access_pattern, 96) && LOAMCHALICE_AT(mlx90640_record, corner_temperatures, 120) &&
+                   LOAMCHALICE_AT(mlx90640_record, offset_reference_cp, 128) && LOAMCHALICE_AT(mlx90640_record, k_v_dd, 132) &&
+                   LOAMCHALICE_AT(mlx90640_record, v_dd_25, 134) && LOAMCHALICE_AT(mlx90640_record, resolution, 136) &&
+                   LOAMCHALICE_AT(mlx90640_record, has_gradient, 137) && LOAMCHALICE_AT(mlx90640_record, unused, 138));
+LOAMCHALICE_SIZE(mlx90640_loaded, 168);
+LOAMCHALICE_ASSERT(LOAMCHALICE_AT(mlx90640_loaded, number, 0) && LOAMCHALICE_AT(mlx90640_loaded, place, 8) &&
+                   LOAMCHALICE_AT(mlx90640_loaded, value, 16) && LOAMCHALICE_AT(mlx90640_loaded, calibration, 24));
 LOAMCHALICE_SIZE(mlx90640_six_ten, 4);
 LOAMCHALICE_ASSERT(LOAMCHALICE_AT(mlx90640_six_ten, six, 0) && LOAMCHALICE_AT(mlx90640_six_ten, ten, 2));
 LOAMCHALICE_SIZE(mlx90640_unsigned, 4);

@@ -484,6 +484,107 @@ static void try_mlx90640(void) {
     expect(REFUSED(loamchalice_mlx90640_chessboard_entry(SIZE_MAX), 14, UINT64_MAX, 0), "the last number there is");
 }
 
+/* Tables for loading the MLX90640's card, each with an entry that must stay. */
+typedef struct {
+    int32_t offsets[769];
+    float alpha[769], k_ta[769];
+} big_tables;
+
+#define BIG_TABLES(t) LENT((t).offsets), LENT((t).alpha), LENT((t).k_ta)
+
+static big_tables big, big_before;
+static uint8_t big_card[LOAMCHALICE_IMAGE_BYTES];
+
+static void put(int word, uint16_t bits) {
+    big_card[2 * word] = (uint8_t)(bits >> 8);
+    big_card[2 * word + 1] = (uint8_t)bits;
+}
+
+/* The MLX90640's paper's card K. */
+static void put_card_k(void) {
+    const uint16_t example[] = {0x18EF, 0x2FF1, 0x5952, 0x9D68, 0x5454, 0x0994, 0x6956, 0x5354,
+                                0x2363, 0xE446, 0xFBB5, 0x044B, 0xF020, 0x9797, 0x9797, 0x2889};
+    memset(big_card, 0, sizeof big_card);
+    put(16, 0x4210);
+    put(17, 0xFFBB);
+    put(32, 0x79A6);
+    put(33, 0x2F44);
+    for (int k = 0; k < 16; k++) {
+        put(48 + k, example[k]);
+    }
+}
+
+/* Refused with a record that is all zero, and the tables are as before. */
+static int refused_card(loamchalice_mlx90640_loaded loaded, uint64_t number, uint64_t place) {
+    static const loamchalice_mlx90640_record none;
+    return REFUSED(loaded, number, place, 0) && memcmp(&loaded.calibration, &none, sizeof none) == 0 && memcmp(&big, &big_before, sizeof big) == 0;
+}
+
+static void try_refused_cards(void) {
+    memset(&big, 0x55, sizeof big);
+    big_before = big;
+    put_card_k();
+    expect(refused_card(loamchalice_mlx90640_load(NOTHING, 4, BIG_TABLES(big)), 1, 0), "no image of the MLX90640");
+    expect(refused_card(loamchalice_mlx90640_load(big_card, 1663, 4, NOTHING, NOTHING, NOTHING), 1, 1663), "a short image, and no tables");
+    expect(refused_card(loamchalice_mlx90640_load(LENT(big_card), 4, big.offsets, 767, LENT(big.alpha), LENT(big.k_ta)), 2, 0), "767 offsets");
+    expect(refused_card(loamchalice_mlx90640_load(LENT(big_card), 1, LENT(big.offsets), big.alpha, 767, LENT(big.k_ta)), 2, 0), "767 of alpha");
+    expect(refused_card(loamchalice_mlx90640_load(LENT(big_card), 1, LENT(big.offsets), LENT(big.alpha), big.k_ta, 767), 2, 0), "767 of K_Ta");
+    expect(refused_card(loamchalice_mlx90640_load(LENT(big_card), 1, NOTHING, NOTHING, NOTHING), 2, 0), "no tables for the MLX90640");
+    expect(refused_card(loamchalice_mlx90640_load(LENT(big_card), 4, BIG_TABLES(big)), 6, 4), "basic range 4");
+    expect(refused_card(loamchalice_mlx90640_load(LENT(big_card), SIZE_MAX, BIG_TABLES(big)), 6, SIZE_MAX), "the last basic range there is");
+    put(17, 0x7FFF);
+    put(831, 0x0400);
+    expect(refused_card(loamchalice_mlx90640_load(LENT(big_card), 4, BIG_TABLES(big)), 5, 767), "an offset of 32768 at the last pixel");
+    memset(big_card, 0xFF, sizeof big_card);
+    expect(refused_card(loamchalice_mlx90640_load(LENT(big_card), 1, BIG_TABLES(big)), 5, 0), "a blank card");
+}
+
+/* What the paper has for card K, word by word. */
+static void try_record_k(loamchalice_mlx90640_record r) {
+    const float access[] = {-0.125f, 2.875f, -3.125f, 0.125f, -2.875f, 3.125f}, k_v[] = {0.625f, 0.5f, 0.625f, 0.5f};
+    const int16_t corners[] = {-40, 0, 160, 320};
+    float k = loamchalice_float(0xBA520000), below = add(1.0f, mul(k, 40.0f)), above = add(1.0f, mul(k, 160.0f));
+    expect(r.k_v_dd == -3168 && r.v_dd_25 == -13056 && r.resolution == 2, "card K: the supply");
+    expect(r.k_v_ptat == 22.0f / 4096.0f && r.k_t_ptat == 42.25f && r.v_ptat_25 == 12273.0f && r.alpha_ptat == 9.0f, "card K: ambient temperature");
+    expect(r.gain == 6383.0f && r.k_s_ta == -16.0f / 8192.0f && r.has_gradient == 1 && r.gradient == 1.0f, "card K: gain and gradient");
+    expect(r.offset_reference_cp[0] == -75 && r.offset_reference_cp[1] == -77, "card K: offsets of the compensation pixels");
+    expect(loamchalice_bits(r.alpha_cp[0]) == 0x318C0000 && loamchalice_bits(r.alpha_cp[1]) == 0x31845800, "card K: their alpha");
+    expect(r.k_v_cp == 0.5f && r.k_ta_cp == 75.0f / 16384.0f && r.access_cp == 1.25f, "card K: the rest of them");
+    expect(memcmp(r.k_v, k_v, sizeof k_v) == 0 && memcmp(r.access_pattern, access, sizeof access) == 0, "card K: patterns");
+    expect(memcmp(r.corner_temperatures, corners, sizeof corners) == 0, "card K: corners");
+    for (int i = 0; i < 4; i++) {
+        expect(loamchalice_bits(r.k_s_to[i]) == 0xBA520000, "card K: K_sTo");
+    }
+    expect(r.range_coefficients[0] == over(1.0f, below) && r.range_coefficients[1] == 1.0f && r.range_coefficients[2] == above &&
+               r.range_coefficients[3] == mul(above, above), "card K: range coefficients");
+}
+
+static void try_big_load(void) {
+    const float k_ta[] = {105.0f, 83.0f, 86.0f, 84.0f};
+    put_card_k();
+    loamchalice_mlx90640_loaded loaded = loamchalice_mlx90640_load(LENT(big_card), LOAMCHALICE_MLX90640_BASIC_RANGE, BIG_TABLES(big));
+    expect(REFUSED(loaded, 0, 0, 0), "card K loads");
+    try_record_k(loaded.calibration);
+    for (int i = 0; i < LOAMCHALICE_MLX90640_PIXELS; i++) {
+        float wanted = k_ta[i / 32 % 2 * 2 + i % 2] / 16384.0f;
+        expect(big.offsets[i] == -69 && loamchalice_bits(big.alpha[i]) == 0x33BD1000 && big.k_ta[i] == wanted, "card K: a pixel");
+    }
+    expect(memcmp(&big.offsets[768], &big_before, 4) == 0 && memcmp(&big.alpha[768], &big_before, 4) == 0 && memcmp(&big.k_ta[768], &big_before, 4) == 0,
+           "entries past 768 stay");
+    put(18, 0x4321);      /* row 1: 2 x 4 */
+    put(24, 0x0021);      /* column 1: 2 x 2 */
+    put(34, 0x0030);      /* alpha, row 1: 3 x 512 */
+    put(64 + 33, 0x041E); /* rests 1, 1 x 64 and -1 x 8 */
+    put(60, 0xF000);
+    loaded = loamchalice_mlx90640_load(LENT(big_card), 3, BIG_TABLES(big));
+    expect(REFUSED(loaded, 0, 0, 0) && loaded.calibration.has_gradient == 0 && loamchalice_bits(loaded.calibration.gradient) == 0, "no gradient");
+    expect(loaded.calibration.range_coefficients[3] == 1.0f && loaded.calibration.range_coefficients[1] != 1.0f, "from range 3");
+    expect(big.offsets[33] == -56 && big.offsets[32] == -59 && big.offsets[1] == -61, "rows, columns and rests of offsets");
+    expect(big.alpha[33] == (12100.0f + 1536.0f + 64.0f) / 137438953472.0f && big.k_ta[33] == 76.0f / 16384.0f, "and of alpha and K_Ta");
+    memset(big_card, 0, sizeof big_card);
+    expect(REFUSED(loamchalice_mlx90640_load(LENT(big_card), 0, BIG_TABLES(big)), 0, 0, 0) && big.offsets[767] == 0, "a wiped card loads");
+}
+
 static int told(loamchalice_settings settings) { return loamchalice_warning(&settings) != NULL; }
 
 static void try_settings(void) {
@@ -638,6 +739,8 @@ int main(int argc, char **argv) {
     try_nothing();
     try_lost();
     try_mlx90640();
+    try_refused_cards();
+    try_big_load();
     try_settings();
     try_gain();
     try_environment();

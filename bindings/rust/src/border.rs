@@ -198,6 +198,43 @@ pub struct Taken {
     pub answer: Load,
 }
 
+/// The MLX90640's record. Lists of two are by the subpage.
+#[repr(C)]
+#[derive(Clone, Copy, Debug)]
+pub struct Record640 {
+    pub k_v_ptat: f32,
+    pub k_t_ptat: f32,
+    pub v_ptat_25: f32,
+    pub alpha_ptat: f32,
+    pub gain: f32,
+    pub k_s_ta: f32,
+    pub k_v_cp: f32,
+    pub k_ta_cp: f32,
+    pub gradient: f32,
+    pub access_cp: f32,
+    pub alpha_cp: [f32; 2],
+    pub k_s_to: [f32; 4],
+    pub range_coefficients: [f32; 4],
+    pub k_v: [f32; 4],
+    pub access_pattern: [f32; 6],
+    pub corner_temperatures: [i16; 4],
+    pub offset_reference_cp: [i16; 2],
+    pub k_v_dd: i16,
+    pub v_dd_25: i16,
+    pub resolution: u8,
+    pub has_gradient: u8,
+    pub unused: [u8; 2],
+}
+
+#[repr(C)]
+#[derive(Clone, Copy, Debug)]
+pub struct Load640 {
+    pub number: u64,
+    pub place: u64,
+    pub value: u64,
+    pub calibration: Record640,
+}
+
 // What the archive takes and hands over, on a processor of 64 bits: each struct's size, and where its fields stand, in bytes.
 macro_rules! layout {
     ($($name:ident $size:literal { $($field:ident $at:literal),* })*) => {
@@ -231,6 +268,10 @@ layout! {
     Signed 4 { nibbles 0 }
     AccessPattern 36 { chess_3 0, chess_2 4, chess_1 8, pattern 12 }
     PixelEntry 32 { number 0, place 8, value 16, entry 24 }
+    Record640 140 { k_v_ptat 0, k_t_ptat 4, v_ptat_25 8, alpha_ptat 12, gain 16, k_s_ta 20, k_v_cp 24, k_ta_cp 28, gradient 32, access_cp 36, alpha_cp 40,
+        k_s_to 48, range_coefficients 64, k_v 80, access_pattern 96, corner_temperatures 120, offset_reference_cp 128, k_v_dd 132, v_dd_25 134,
+        resolution 136, has_gradient 137, unused 138 }
+    Load640 168 { number 0, place 8, value 16, calibration 24 }
 }
 
 #[rustfmt::skip]
@@ -312,6 +353,10 @@ extern "C" {
     fn loamchalice_mlx90640_access_pattern(word: u16) -> AccessPattern;
     fn loamchalice_mlx90640_interleave_entry(pixel: usize) -> PixelEntry;
     fn loamchalice_mlx90640_chessboard_entry(pixel: usize) -> PixelEntry;
+    fn loamchalice_mlx90640_load(
+        image: *const u8, length: usize, basic_range: usize,
+        offsets: *mut i32, offsets_length: usize, alpha: *mut f32, alpha_length: usize, k_ta: *mut f32, k_ta_length: usize,
+    ) -> Load640;
 }
 
 /// What a frame takes from a card.
@@ -471,4 +516,10 @@ pub fn interleave_entry(pixel: usize) -> PixelEntry {
 
 pub fn chessboard_entry(pixel: usize) -> PixelEntry {
     unsafe { loamchalice_mlx90640_chessboard_entry(pixel) }
+}
+
+// The comparison's; the crate's module has no card yet.
+#[allow(dead_code)]
+pub fn mlx90640_load(image: &[u8], basic_range: usize, offsets: &mut [i32], alpha: &mut [f32], k_ta: &mut [f32]) -> Load640 {
+    call!(loamchalice_mlx90640_load(image.as_ptr(), image.len(), basic_range;; offsets, alpha, k_ta))
 }

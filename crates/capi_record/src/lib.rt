@@ -1,4 +1,4 @@
-// The record and the subpage as C has them: what cards and frames share at the border.
+// The record, the gradient and the subpage as C has them: what cards and frames share at the border.
 ghost use mathlib.Core.Path.{_≡_};
 ghost use Rattle.capi_record.specs.Record.{gradientOut, recordOut, gradientIn, recordIn, subpageOf};
 use calibration::Calibration;
@@ -30,12 +30,13 @@ pub struct Record {
 }
 
 // The gradient as a flag and a coefficient.
-struct Flagged {
-    has: u8,
-    coefficient: f32,
+pub struct Flagged {
+    pub has: u8,
+    pub coefficient: f32,
 }
 
-fn gradient_out(gradient: Gradient) -> Flagged
+// No gradient is the flag 0, and the coefficient +0.
+pub fn gradient_out(gradient: Gradient) -> Flagged
     ensures { λ r. ⌜ r ≡ gradientOut gradient ⌝ }
 {
     match gradient {
@@ -82,7 +83,8 @@ pub fn record_out(calibration: Calibration) -> Record
     }
 }
 
-fn gradient_in(has: u8, coefficient: f32) -> Gradient
+// The flag 0 is no gradient, whatever the coefficient.
+pub fn gradient_in(has: u8, coefficient: f32) -> Gradient
     ensures { λ r. ⌜ r ≡ gradientIn has coefficient ⌝ }
 {
     if has == 0 {

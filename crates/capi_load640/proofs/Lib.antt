@@ -1,0 +1,2 @@
+-- Single is the law of the single answer.
+pub mod Single

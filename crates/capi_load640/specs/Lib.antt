@@ -1,0 +1,2 @@
+-- The answer as C has it.
+pub mod Border
