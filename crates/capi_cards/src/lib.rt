@@ -68,7 +68,7 @@ pub extern "C" fn loamchalice_load(
     }
 }
 
-fn said(verdict: Verdict) -> Outcome
+pub fn said(verdict: Verdict) -> Outcome
     ensures { λ r. ⌜ r ≡ outcomeOf verdict ⌝ }
 {
     let refused = verdict.told();

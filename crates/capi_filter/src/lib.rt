@@ -65,7 +65,7 @@ pub extern "C" fn loamchalice_filter_average(filter: Filter) -> Average
     average_out(filter::average(filter))
 }
 
-fn steadied_in(average: Average) -> Steadied
+pub fn steadied_in(average: Average) -> Steadied
     ensures { λ r. ⌜ r ≡ steadiedIn average ⌝ }
 {
     if average.ready == 0 {

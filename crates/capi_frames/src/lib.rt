@@ -52,7 +52,7 @@ pub struct Answer {
     pub t_a: u32,
 }
 
-fn ram_in(ram: Ram) -> RamData
+pub fn ram_in(ram: Ram) -> RamData
     ensures { λ r. ⌜ r ≡ ramIn ram ⌝ }
 {
     RamData {
@@ -64,7 +64,7 @@ fn ram_in(ram: Ram) -> RamData
     }
 }
 
-fn settings_in(settings: Settings) -> formulas::Settings
+pub fn settings_in(settings: Settings) -> formulas::Settings
     ensures { λ r. ⌜ r ≡ settingsIn settings ⌝ }
 {
     let reflected = if settings.reflected_given == 0 {

@@ -1,0 +1,1 @@
+-- No laws of its own: the calls admit one answer by capi_frames/proofs/Single.

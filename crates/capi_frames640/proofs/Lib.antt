@@ -1,0 +1,2 @@
+-- Single is a law for readers.
+pub mod Single
