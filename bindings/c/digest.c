@@ -80,9 +80,9 @@ static void eat_told(uint64_t number, uint64_t place, uint64_t value) {
     EAT(value);
 }
 
-#define TOLD(answer) eat_told((answer).number, (answer).place, (answer).value)
+#define TOLD(answer) eat_told((answer).told.number, (answer).told.place, (answer).told.value)
 /* The same, and the call counts as refused where it is. */
-#define REFUSAL(answer) (now->refused += (answer).number != 0, TOLD(answer))
+#define REFUSAL(answer) (now->refused += (answer).told.number != 0, TOLD(answer))
 
 static void eat_record(const loamchalice_record *r) {
     const float floats[] = {r->k_v_ptat, r->k_t_ptat, r->v_ptat_25, r->alpha_ptat, r->gain, r->k_s_ta, r->emissivity, r->alpha_cp, r->k_v_cp, r->k_ta_cp, r->gradient};
@@ -204,7 +204,7 @@ static int read_cards(const char *folder) {
 /* Some words of a card drawn anew, or all of them. */
 static void draw_words(uint8_t *card, int all) {
     static uint16_t data[LOAMCHALICE_CHECKED_WORDS], others[LOAMCHALICE_UNCHECKED_WORDS];
-    if (loamchalice_read_words(card, LOAMCHALICE_IMAGE_BYTES, data, COUNT(data), others, COUNT(others)).number != 0 || all) {
+    if (loamchalice_read_words(card, LOAMCHALICE_IMAGE_BYTES, data, COUNT(data), others, COUNT(others)).told.number != 0 || all) {
         for (size_t i = 0; i < COUNT(data); i++) {
             data[i] = (uint16_t)below(2048);
         }
@@ -408,7 +408,7 @@ static loamchalice_record call_load(void) {
     REFUSAL(loaded);
     eat_loaded(&loaded);
     eat_tables();
-    if (loaded.number != 0) {
+    if (loaded.told.number != 0) {
         loaded = loamchalice_load(cards[0], LOAMCHALICE_IMAGE_BYTES, LOAMCHALICE_BASIC_RANGE, offsets0, 192, offsets1, 192, alpha, 192, k_v, 192, k_ta, 192);
     }
     if (rarely(10)) {
@@ -604,6 +604,98 @@ static void call_big_load(void) {
     eat_floats(big_k_ta, BIG_ROOM);
 }
 
+/* The MLX90640's frames, on a card near its paper's example, or on the last one that was drawn. */
+static uint8_t big_pixels[2 * BIG_ROOM], big_mask[BIG_ROOM];
+static uint32_t big_destination[BIG_ROOM];
+
+static void put_big_example(void) {
+    const uint16_t example[] = {0x18EF, 0x2FF1, 0x5952, 0x9D68, 0x5454, 0x0994, 0x6956, 0x5354,
+                                0x2363, 0xE446, 0xFBB5, 0x044B, 0xF020, 0x9797, 0x9797, 0x2889};
+    memset(image, 0, sizeof image);
+    put(16, 0x4210);
+    put(17, 0xFFBB);
+    put(32, 0x79A6);
+    put(33, 0x2F44);
+    for (size_t k = 0; k < COUNT(example); k++) {
+        put(48 + k, example[k] ^ (rarely(6) ? 1u << below(16) : 0));
+    }
+    for (size_t pixel = 0; pixel < 768; pixel++) {
+        put(64 + pixel, (below(7) << 10) + (below(7) << 4) + (below(8) << 1));
+    }
+}
+
+static void draw_big_pixels(void) {
+    int scene = !rarely(4);
+    uint64_t kind = below(3);
+    for (int i = 0; i < BIG_ROOM; i++) {
+        int near = (int)below(400), hot = rarely(6) ? (int)below(6000) : 0;
+        uint16_t word = scene ? (uint16_t)(300 + near + hot) : (uint16_t)any();
+        const uint8_t kinds[] = {1, (uint8_t)below(3), (uint8_t)(i == 700)};
+        big_pixels[2 * i] = (uint8_t)(word >> 8);
+        big_pixels[2 * i + 1] = (uint8_t)word;
+        big_mask[i] = kinds[kind];
+        big_destination[i] = 0x11110000u + (uint32_t)i;
+    }
+}
+
+static void eat_big_frame(const char *name, loamchalice_answer answer) {
+    of(name);
+    REFUSAL(answer);
+    EAT(answer.lost);
+    EAT(answer.t_a);
+    EAT(big_destination);
+    for (int i = 0; i < BIG_ROOM; i++) {
+        big_destination[i] = 0x11110000u + (uint32_t)i;
+    }
+}
+
+#define BIG_FRAME big_pixels, bytes, big_mask, masked, big_destination, entries
+#define BIG_TABLES big_offsets, first, big_alpha, second, big_k_ta, third
+
+static void call_big_frames(void) {
+    if (rarely(6)) {
+        draw_big_card();
+    } else {
+        put_big_example();
+    }
+    loamchalice_mlx90640_record record =
+        loamchalice_mlx90640_load(image, LOAMCHALICE_IMAGE_BYTES, any_range(3), big_offsets, BIG_ROOM, big_alpha, BIG_ROOM, big_k_ta, BIG_ROOM).calibration;
+    loamchalice_mlx90640_filtered filtered;
+    memset(&filtered, 0, sizeof filtered);
+    filtered.compensation.average = any_float(-54.0f, 10.0f);
+    filtered.compensation.ready = (uint8_t)below(3);
+    filtered.input.settings = draw_settings();
+    filtered.input.settings.basic_range = any_range(3);
+    filtered.input.ram = draw_ram();
+    filtered.input.subpage = (uint8_t)below(3);
+    filtered.input.pattern = (uint8_t)below(3);
+    draw_big_pixels();
+    size_t first = length(768, BIG_ROOM), second = length(768, BIG_ROOM), third = length(768, BIG_ROOM);
+    size_t bytes = length(1536, sizeof big_pixels), masked = length(768, BIG_ROOM), entries = length(768, BIG_ROOM);
+    loamchalice_mlx90640_input input = filtered.input;
+    float t_a = any_float(30.0f, 30.0f);
+    if (rarely(4)) {
+        loamchalice_outcome outcome = loamchalice_mlx90640_subpage_mask(input.subpage, input.pattern, big_mask, masked);
+        of("mlx90640_subpage_mask");
+        REFUSAL(outcome);
+        EAT(big_mask);
+    }
+    eat_big_frame("mlx90640_raw_pixels_to_ir_data",
+                  loamchalice_mlx90640_raw_pixels_to_ir_data(record, input, big_offsets, first, big_k_ta, third, BIG_FRAME));
+    for (int i = 0; i < BIG_ROOM; i++) {
+        big_destination[i] = loamchalice_bits(any_float(700.0f, 300.0f));
+    }
+    eat_big_frame("mlx90640_raw_ir_to_temperatures",
+                  loamchalice_mlx90640_raw_ir_to_temperatures(record, input.settings, input.subpage, t_a, big_alpha, second, big_mask, masked, big_destination, entries));
+    eat_big_frame("mlx90640_raw_pixels_to_temperatures", loamchalice_mlx90640_raw_pixels_to_temperatures(record, input, BIG_TABLES, BIG_FRAME));
+    eat_big_frame("mlx90640_raw_pixels_to_ranged_temperatures", loamchalice_mlx90640_raw_pixels_to_ranged_temperatures(record, input, BIG_TABLES, BIG_FRAME));
+    eat_big_frame("mlx90640_filtered_pixels_to_ir_data",
+                  loamchalice_mlx90640_filtered_pixels_to_ir_data(record, filtered, big_offsets, first, big_k_ta, third, BIG_FRAME));
+    eat_big_frame("mlx90640_filtered_pixels_to_temperatures", loamchalice_mlx90640_filtered_pixels_to_temperatures(record, filtered, BIG_TABLES, BIG_FRAME));
+    eat_big_frame("mlx90640_filtered_pixels_to_ranged_temperatures",
+                  loamchalice_mlx90640_filtered_pixels_to_ranged_temperatures(record, filtered, BIG_TABLES, BIG_FRAME));
+}
+
 int main(int argc, char **argv) {
     if (argc != 2 || !read_cards(argv[1])) {
         fprintf(stderr, "usage: digest FOLDER_OF_CARDS\n");
@@ -625,6 +717,9 @@ int main(int argc, char **argv) {
     }
     for (int i = 0; i < ROUNDS; i++) {
         call_big_load();
+    }
+    for (int i = 0; i < ROUNDS; i++) {
+        call_big_frames();
     }
     for (size_t i = 0; i < names; i++) {
         const tally *t = &tallies[i];

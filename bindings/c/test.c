@@ -22,7 +22,7 @@ static void expect(int holds, const char *what) {
     }
 }
 
-#define REFUSED(answer, n, p, v) ((answer).number == (n) && (answer).place == (p) && (answer).value == (v))
+#define REFUSED(answer, n, p, v) ((answer).told.number == (n) && (answer).told.place == (p) && (answer).told.value == (v))
 
 /* Tables for loading, each with an entry that must stay. */
 typedef struct {
@@ -87,7 +87,7 @@ static void try_load(void) {
     expect(REFUSED(loaded, 0, 0, 0) && loaded.mended == 1 && loaded.last_mended == 700, "a flipped bit is mended");
     card[2 * 700 + 1] ^= 4 ^ 3;
     loaded = loamchalice_load(LENT(card), 2, TABLES(t));
-    expect(loaded.number == 3 && loaded.place == 700 && loaded.value == (uint64_t)(card[1400] << 8 | card[1401]), "two flipped bits are refused");
+    expect(loaded.told.number == 3 && loaded.told.place == 700 && loaded.told.value == (uint64_t)(card[1400] << 8 | card[1401]), "two flipped bits are refused");
     card[2 * 700 + 1] ^= 3;
 }
 
@@ -174,7 +174,7 @@ static void try_reader(void) {
     for (size_t at = 0; at < sizeof card; at += 63) {
         size_t length = sizeof card - at < 63 ? sizeof card - at : 63;
         taken = loamchalice_reader_take(image, taken.reader, NOTHING, 2, TABLES(t));
-        expect(loamchalice_reader_wants_more(&taken) && taken.answer.number == 0 && taken.reader.count == at, "an empty piece changes nothing");
+        expect(loamchalice_reader_wants_more(&taken) && taken.answer.told.number == 0 && taken.reader.count == at, "an empty piece changes nothing");
         taken = loamchalice_reader_take(image, taken.reader, card + at, length, 2, NOTHING, NOTHING, NOTHING, NOTHING, NOTHING);
         expect(loamchalice_reader_wants_more(&taken) && REFUSED(taken.answer, 2, 0, 0) && taken.reader.count == at, "short tables take no piece");
         expect(same_tables(&t, &before), "tables stay while more is wanted");
@@ -183,8 +183,8 @@ static void try_reader(void) {
     expect(!loamchalice_reader_wants_more(&taken) && REFUSED(taken.answer, 0, 0, 0) && taken.reader.count == sizeof card, "the card is done");
     expect(same_tables(&t, &want) && memcmp(&taken.answer.calibration, &camera.record, sizeof camera.record) == 0, "as a load");
     taken = loamchalice_reader_take(image, taken.reader, card, 5, 9, NOTHING, NOTHING, NOTHING, NOTHING, NOTHING);
-    expect(!loamchalice_reader_wants_more(&taken) && taken.answer.number == 0 && taken.answer.calibration.gain == camera.record.gain, "again");
-    expect(loamchalice_reader_finished(taken.reader).answer.number == 0, "finished after the end");
+    expect(!loamchalice_reader_wants_more(&taken) && taken.answer.told.number == 0 && taken.answer.calibration.gain == camera.record.gain, "again");
+    expect(loamchalice_reader_finished(taken.reader).answer.told.number == 0, "finished after the end");
     taken.reader = loamchalice_reader_new();
     taken = loamchalice_reader_take(image, taken.reader, card, 100, 2, TABLES(t));
     loamchalice_reader ended = loamchalice_reader_finished(taken.reader);
@@ -206,7 +206,7 @@ static void try_odd_readers(void) {
         loamchalice_reader reader = loamchalice_reader_new();
         reader.count = counts[k];
         loamchalice_reader back = loamchalice_reader_finished(reader);
-        expect(back.count == counts[k] && back.ended == 0 && back.answer.number == 0, "a full reader that has not ended comes back");
+        expect(back.count == counts[k] && back.ended == 0 && back.answer.told.number == 0, "a full reader that has not ended comes back");
         loamchalice_taken taken = loamchalice_reader_take(image, reader, NOTHING, 2, TABLES(t));
         expect(loamchalice_reader_wants_more(&taken) && taken.reader.count == counts[k], "an empty piece changes nothing of it");
         taken = loamchalice_reader_take(image, reader, card, 1, 2, TABLES(t));
@@ -216,8 +216,8 @@ static void try_odd_readers(void) {
     loamchalice_reader odd;
     memset(&odd, 0xFF, sizeof odd);
     loamchalice_taken taken = loamchalice_reader_take(image, odd, LENT(card), 2, TABLES(t));
-    expect(!loamchalice_reader_wants_more(&taken) && memcmp(&taken.answer.number, &odd.answer.number, 8) == 0 && same_tables(&t, &before), "an odd end");
-    expect(loamchalice_reader_finished(odd).answer.place == UINT64_MAX, "and again");
+    expect(!loamchalice_reader_wants_more(&taken) && memcmp(&taken.answer.told.number, &odd.answer.told.number, 8) == 0 && same_tables(&t, &before), "an odd end");
+    expect(loamchalice_reader_finished(odd).answer.told.place == UINT64_MAX, "and again");
 }
 
 static void try_filter(void) {
@@ -437,15 +437,15 @@ static void try_nothing(void) {
     loamchalice_input input = loamchalice_input_of(&settings, ram, 0);
     loamchalice_filtered filtered = {input, {0.0f, 1}};
     loamchalice_record r = camera.record;
-    expect(loamchalice_raw_pixels_to_ir_data(r, input, NOTHING, NOTHING, NOTHING, NOTHING, NOTHING, NOTHING, NOTHING).number == 2, "infrared of nothing");
-    expect(loamchalice_raw_ir_to_temperatures(r, settings, 30.0f, NOTHING, NOTHING, NOTHING).number == 2, "temperatures of nothing");
-    expect(loamchalice_raw_ir_to_temperatures(r, settings, 30.0f, LENT(camera.alpha), NOTHING, NOTHING).number == 10, "no picture");
-    expect(loamchalice_raw_pixels_to_temperatures(r, input, ALL, NOTHING, NOTHING, NOTHING).number == 10, "no pixels");
-    expect(loamchalice_raw_pixels_to_temperatures(r, input, ALL, LENT(pixels), NOTHING, LENT(picture)).number == 10, "no mask");
-    expect(loamchalice_raw_pixels_to_ranged_temperatures(r, input, ALL, LENT(pixels), LENT(mask), NOTHING).number == 10, "no picture for the second pass");
-    expect(loamchalice_filtered_pixels_to_ir_data(r, filtered, OFFSETS, NOTHING, NOTHING, FRAME).number == 2, "no K");
-    expect(loamchalice_filtered_pixels_to_temperatures(r, filtered, NOTHING, NOTHING, LENT(camera.alpha), K, FRAME).number == 2, "no offsets");
-    expect(loamchalice_filtered_pixels_to_ranged_temperatures(r, filtered, OFFSETS, NOTHING, K, FRAME).number == 2, "no alpha");
+    expect(loamchalice_raw_pixels_to_ir_data(r, input, NOTHING, NOTHING, NOTHING, NOTHING, NOTHING, NOTHING, NOTHING).told.number == 2, "infrared of nothing");
+    expect(loamchalice_raw_ir_to_temperatures(r, settings, 30.0f, NOTHING, NOTHING, NOTHING).told.number == 2, "temperatures of nothing");
+    expect(loamchalice_raw_ir_to_temperatures(r, settings, 30.0f, LENT(camera.alpha), NOTHING, NOTHING).told.number == 10, "no picture");
+    expect(loamchalice_raw_pixels_to_temperatures(r, input, ALL, NOTHING, NOTHING, NOTHING).told.number == 10, "no pixels");
+    expect(loamchalice_raw_pixels_to_temperatures(r, input, ALL, LENT(pixels), NOTHING, LENT(picture)).told.number == 10, "no mask");
+    expect(loamchalice_raw_pixels_to_ranged_temperatures(r, input, ALL, LENT(pixels), LENT(mask), NOTHING).told.number == 10, "no picture for the second pass");
+    expect(loamchalice_filtered_pixels_to_ir_data(r, filtered, OFFSETS, NOTHING, NOTHING, FRAME).told.number == 2, "no K");
+    expect(loamchalice_filtered_pixels_to_temperatures(r, filtered, NOTHING, NOTHING, LENT(camera.alpha), K, FRAME).told.number == 2, "no offsets");
+    expect(loamchalice_filtered_pixels_to_ranged_temperatures(r, filtered, OFFSETS, NOTHING, K, FRAME).told.number == 2, "no alpha");
 }
 
 /* An average that is NaN loses every pixel asked for, and none without a gradient. */
@@ -460,7 +460,7 @@ static void try_lost(void) {
         asked += mask[i] != 0;
         lost += picture[i] == LOAMCHALICE_NOT_A_NUMBER;
     }
-    expect(answer.number == 0 && answer.lost == asked && lost == asked, "an average of NaN");
+    expect(answer.told.number == 0 && answer.lost == asked && lost == asked, "an average of NaN");
     record.has_gradient = 0;
     record.gradient = loamchalice_float(LOAMCHALICE_NOT_A_NUMBER);
     expect(loamchalice_filtered_pixels_to_ranged_temperatures(record, filtered, ALL, FRAME).lost == 0, "without a gradient");
@@ -583,6 +583,184 @@ static void try_big_load(void) {
     expect(big.alpha[33] == (12100.0f + 1536.0f + 64.0f) / 137438953472.0f && big.k_ta[33] == 76.0f / 16384.0f, "and of alpha and K_Ta");
     memset(big_card, 0, sizeof big_card);
     expect(REFUSED(loamchalice_mlx90640_load(LENT(big_card), 0, BIG_TABLES(big)), 0, 0, 0) && big.offsets[767] == 0, "a wiped card loads");
+}
+
+/* A frame of the MLX90640: lists with an entry that must stay. */
+static loamchalice_mlx90640_camera big_camera;
+static const loamchalice_ram big_ram = {19442, 1711, -13115, 6273, -54};
+static uint8_t big_pixels[1538], big_mask[769];
+static uint32_t big_picture[769];
+
+#define BIG_FRAME LENT(big_pixels), LENT(big_mask), LENT(big_picture)
+#define BIG_OWN LENT(big_camera.offsets), LENT(big_camera.alpha), LENT(big_camera.k_ta)
+
+static void fill_big(int reading) {
+    for (int i = 0; i < 769; i++) {
+        big_pixels[2 * i] = (uint8_t)((unsigned)reading >> 8);
+        big_pixels[2 * i + 1] = (uint8_t)reading;
+        big_mask[i] = 1;
+        big_picture[i] = 77;
+    }
+}
+
+/* The paper's table of card K: infrared and temperature of five pixels, by pattern (chess, interleave) and subpage. */
+static void try_card_k_frames(void) {
+    static const int places[] = {0, 1, 3, 32, 35};
+    static const uint32_t infrared[4][5] = {
+        {0x44278A4C, 0x44273535, 0x44273535, 0x442735C4, 0x44272E0D}, {0x442700B8, 0x4426ABA1, 0x4426ABA1, 0x4426AC30, 0x4426A479},
+        {0x4427824C, 0x4427ED35, 0x44266D35, 0x44273DC4, 0x4427F60D}, {0x4426A8B8, 0x442713A1, 0x442593A1, 0x44266430, 0x44271C79}};
+    static const uint32_t temperatures[4][5] = {
+        {0x42BE11C0, 0x42BDE300, 0x42BDE300, 0x42BDE350, 0x42BDDF10}, {0x42BD87EC, 0x42BD593C, 0x42BD593C, 0x42BD598C, 0x42BD554C},
+        {0x42BE0D58, 0x42BE4808, 0x42BD7504, 0x42BDE7B4, 0x42BE4CE0}, {0x42BD57A0, 0x42BD9250, 0x42BCBF58, 0x42BD3200, 0x42BD9728}};
+    put_card_k();
+    expect(REFUSED(loamchalice_mlx90640_camera_load(&big_camera, LENT(big_card)), 0, 0, 0), "card K in a camera");
+    loamchalice_settings s = loamchalice_mlx90640_settings_of(&big_camera.record, 2);
+    expect(s.basic_range == 1 && s.emissivity == 1.0f && s.resolution_correction == 1.0f && s.self_heating == 8.0f, "the MLX90640's settings");
+    expect(loamchalice_mlx90640_warning(&s) == NULL && loamchalice_mlx90640_gain_warning(&big_camera.record, big_ram) == NULL, "no warning");
+    s.basic_range = 4;
+    expect(loamchalice_mlx90640_warning(&s) != NULL && loamchalice_warning(&s) == NULL, "a range that the other camera has");
+    s.basic_range = 1;
+    for (int way = 0; way < 4; way++) {
+        uint8_t subpage = (uint8_t)(way % 2), pattern = way < 2 ? LOAMCHALICE_MLX90640_CHESS : LOAMCHALICE_MLX90640_INTERLEAVE;
+        loamchalice_mlx90640_input input = loamchalice_mlx90640_input_of(&s, big_ram, subpage, pattern);
+        loamchalice_mlx90640_filtered filtered;
+        memset(&filtered, 0, sizeof filtered);
+        filtered.input = input;
+        fill_big(609);
+        loamchalice_answer answer = loamchalice_mlx90640_camera_raw_pixels_to_ir_data(&big_camera, &s, big_ram, subpage, pattern, big_pixels, 1536, big_mask, big_picture);
+        expect(REFUSED(answer, 0, 0, 0) && answer.lost == 0 && answer.t_a == 0x421CBCDA, "card K: infrared");
+        for (int k = 0; k < 5; k++) {
+            expect(big_picture[places[k]] == infrared[way][k], "card K: an infrared number");
+        }
+        answer = loamchalice_mlx90640_camera_raw_ir_to_temperatures(&big_camera, &s, subpage, loamchalice_float(answer.t_a), big_mask, big_picture);
+        for (int k = 0; k < 5; k++) {
+            expect(big_picture[places[k]] == temperatures[way][k], "card K: a temperature of two calls");
+        }
+        uint32_t two[768];
+        memcpy(two, big_picture, sizeof two);
+        fill_big(609);
+        answer = loamchalice_mlx90640_raw_pixels_to_temperatures(big_camera.record, input, BIG_OWN, BIG_FRAME);
+        expect(REFUSED(answer, 0, 0, 0) && memcmp(two, big_picture, sizeof two) == 0 && big_picture[768] == 77, "card K: one pass is two calls");
+        fill_big(609);
+        answer = loamchalice_mlx90640_filtered_pixels_to_temperatures(big_camera.record, filtered, BIG_OWN, BIG_FRAME);
+        expect(REFUSED(answer, 0, 0, 0) && memcmp(two, big_picture, sizeof two) == 0, "card K: no average yet");
+        filtered.compensation.ready = 1;
+        filtered.compensation.average = -54.0f;
+        fill_big(609);
+        answer = loamchalice_mlx90640_camera_filtered_pixels_to_temperatures(&big_camera, &s, big_ram, filtered.compensation, subpage, pattern, big_pixels, 1536, big_mask, big_picture);
+        expect(REFUSED(answer, 0, 0, 0) && memcmp(two, big_picture, sizeof two) == 0, "card K: an average of the reading itself");
+        filtered.compensation.average = loamchalice_float(LOAMCHALICE_NOT_A_NUMBER);
+        answer = loamchalice_mlx90640_filtered_pixels_to_ir_data(
+            big_camera.record, filtered, LENT(big_camera.offsets), LENT(big_camera.k_ta), BIG_FRAME);
+        expect(REFUSED(answer, 0, 0, 0) && answer.lost == 768 && big_picture[767] == LOAMCHALICE_NOT_A_NUMBER, "card K: an average of NaN");
+        answer = loamchalice_mlx90640_camera_raw_pixels_to_ranged_temperatures(&big_camera, &s, big_ram, subpage, pattern, big_pixels, 1536, big_mask, big_picture);
+        expect(REFUSED(answer, 0, 0, 0) && answer.lost == 0, "card K: the second pass");
+        answer = loamchalice_mlx90640_filtered_pixels_to_ranged_temperatures(big_camera.record, filtered, BIG_OWN, BIG_FRAME);
+        expect(answer.lost == 768, "card K: the second pass with an average of NaN");
+    }
+}
+
+/* A card of zeros but three words: signs of zero by pattern. */
+static void try_signs_of_zero(void) {
+    static const int minus[] = {0, 3, 33}, plus[] = {1, 32, 35};
+    const loamchalice_ram ram = {1, 0, -16384, 1, 0};
+    memset(big_card, 0, sizeof big_card);
+    put(48, 0xFFFF);
+    put(50, 1);
+    put(51, 0x0100);
+    expect(REFUSED(loamchalice_mlx90640_camera_load(&big_camera, LENT(big_card)), 0, 0, 0), "a card of zeros but three words");
+    loamchalice_settings s = loamchalice_mlx90640_settings_of(&big_camera.record, 0);
+    fill_big(0);
+    loamchalice_answer answer =
+        loamchalice_mlx90640_camera_raw_pixels_to_ir_data(&big_camera, &s, ram, 0, LOAMCHALICE_MLX90640_CHESS, big_pixels, 1536, big_mask, big_picture);
+    expect(REFUSED(answer, 0, 0, 0), "infrared of zeros");
+    for (int i = 0; i < 768; i++) {
+        expect(big_picture[i] == 0, "+0 in chess");
+    }
+    loamchalice_mlx90640_camera_raw_pixels_to_ir_data(&big_camera, &s, ram, 0, LOAMCHALICE_MLX90640_INTERLEAVE, big_pixels, 1536, big_mask, big_picture);
+    for (int k = 0; k < 3; k++) {
+        expect(big_picture[minus[k]] == 0x80000000 && big_picture[plus[k]] == 0, "signs of zero in interleave");
+    }
+}
+
+static void try_masks(void) {
+    for (int way = 0; way < 4; way++) {
+        int chess = way / 2, subpage = way % 2, right = 1;
+        memset(big_mask, 7, sizeof big_mask);
+        expect(REFUSED(loamchalice_mlx90640_subpage_mask((uint8_t)(subpage * 255), (uint8_t)(chess * 9), LENT(big_mask)), 0, 0, 0), "a mask");
+        for (int i = 0; i < 768; i++) {
+            right &= big_mask[i] == ((i / 32 + (chess ? i % 32 : 0)) % 2 == subpage);
+        }
+        expect(right && big_mask[768] == 7, "the pixels of a subpage");
+    }
+    memset(big_mask, 7, sizeof big_mask);
+    expect(REFUSED(loamchalice_mlx90640_subpage_mask(0, 0, big_mask, 767), 2, 0, 0) && big_mask[0] == 7, "a mask of 767");
+    expect(REFUSED(loamchalice_mlx90640_subpage_mask(0, 0, NOTHING), 2, 0, 0), "no mask");
+}
+
+static int big_refused(loamchalice_answer answer, uint64_t number, uint64_t place) {
+    int same = 1;
+    for (int i = 0; i < 769; i++) {
+        same &= big_picture[i] == 77;
+    }
+    return REFUSED(answer, number, place, 0) && answer.lost == 0 && answer.t_a == 0 && same;
+}
+
+static void try_refused_big_frames(void) {
+    put_card_k();
+    loamchalice_mlx90640_camera_load(&big_camera, LENT(big_card));
+    loamchalice_mlx90640_record r = big_camera.record;
+    loamchalice_settings s = loamchalice_mlx90640_settings_of(&r, 2);
+    loamchalice_mlx90640_input input = loamchalice_mlx90640_input_of(&s, big_ram, 1, 0);
+    loamchalice_average none = {0.0f, 0};
+    loamchalice_mlx90640_filtered filtered = loamchalice_mlx90640_filtered_of(&s, big_ram, none, 1, 0);
+    fill_big(609);
+#define OFFSETS_767 big_camera.offsets, 767
+    expect(big_refused(loamchalice_mlx90640_raw_pixels_to_ir_data(r, input, OFFSETS_767, LENT(big_camera.k_ta), NOTHING, NOTHING, NOTHING), 2, 0), "767 offsets");
+    expect(big_refused(loamchalice_mlx90640_raw_pixels_to_ir_data(r, input, LENT(big_camera.offsets), NOTHING, BIG_FRAME), 2, 0), "no K_Ta");
+    expect(big_refused(loamchalice_mlx90640_raw_ir_to_temperatures(r, s, 0, 30.0f, big_camera.alpha, 767, LENT(big_mask), LENT(big_picture)), 2, 0), "767 of alpha");
+    expect(big_refused(loamchalice_mlx90640_raw_pixels_to_temperatures(r, input, BIG_OWN, big_pixels, 1535, LENT(big_mask), LENT(big_picture)), 10, 1535), "1535 bytes");
+    expect(big_refused(loamchalice_mlx90640_raw_pixels_to_temperatures(r, input, BIG_OWN, LENT(big_pixels), big_mask, 767, LENT(big_picture)), 10, 767), "a mask of 767");
+    expect(big_refused(loamchalice_mlx90640_raw_pixels_to_ranged_temperatures(r, input, BIG_OWN, LENT(big_pixels), LENT(big_mask), big_picture, 767), 10, 767), "a picture of 767");
+    expect(big_refused(loamchalice_mlx90640_filtered_pixels_to_ir_data(r, filtered, NOTHING, NOTHING, BIG_FRAME), 2, 0), "no tables");
+    expect(big_refused(loamchalice_mlx90640_filtered_pixels_to_temperatures(r, filtered, BIG_OWN, NOTHING, NOTHING, NOTHING), 10, 0), "no frame");
+    expect(big_refused(loamchalice_mlx90640_filtered_pixels_to_ranged_temperatures(r, filtered, BIG_OWN, LENT(big_pixels), NOTHING, LENT(big_picture)), 10, 0), "no mask");
+    input.settings.basic_range = 4;
+    input.ram.v_dd_pixel = 32767;
+    expect(big_refused(loamchalice_mlx90640_raw_pixels_to_temperatures(r, input, BIG_OWN, BIG_FRAME), 6, 4), "6 before 7");
+    input.settings.basic_range = 3;
+    expect(big_refused(loamchalice_mlx90640_raw_pixels_to_temperatures(r, input, BIG_OWN, BIG_FRAME), 7, 0), "a supply that is too far");
+    input.ram = big_ram;
+    input.settings.emissivity = 0.0f;
+    expect(big_refused(loamchalice_mlx90640_raw_pixels_to_ir_data(r, input, LENT(big_camera.offsets), LENT(big_camera.k_ta), BIG_FRAME), 8, 0), "emissivity 0");
+    input.settings.emissivity = 1.0f;
+    r.corner_temperatures[2] = 0;
+    expect(big_refused(loamchalice_mlx90640_raw_pixels_to_ranged_temperatures(r, input, BIG_OWN, BIG_FRAME), 12, 2), "a corner that is not above the last");
+    filtered.input = input;
+    expect(big_refused(loamchalice_mlx90640_filtered_pixels_to_ranged_temperatures(r, filtered, BIG_OWN, BIG_FRAME), 12, 2), "the same with a filter");
+}
+
+/* Records that no load makes: any bits. */
+static void try_odd_big_records(void) {
+    for (unsigned k = 0; k < 256; k++) {
+        loamchalice_mlx90640_record r;
+        memset(&r, (int)k, sizeof r);
+        loamchalice_settings s = loamchalice_mlx90640_settings_of(&r, (uint8_t)k);
+        fill_big(32767);
+        loamchalice_answer answer = loamchalice_mlx90640_raw_pixels_to_ranged_temperatures(r, loamchalice_mlx90640_input_of(&s, big_ram, (uint8_t)k, (uint8_t)k), BIG_OWN, BIG_FRAME);
+        expect(answer.told.number == 8 || answer.told.number == 7 || answer.told.number == 12 || answer.told.number == 0, "an odd record");
+        expect(big_picture[768] == 77, "no more than 768 pixels");
+    }
+}
+
+static void try_texts(void) {
+    for (uint64_t number = 0; number < 16; number++) {
+        for (uint64_t other = 0; other < number; other++) {
+            expect(strcmp(loamchalice_refusal_text(number), loamchalice_refusal_text(other)) != 0, "each refusal has words of its own");
+        }
+    }
+    expect(strcmp(loamchalice_refusal_text(UINT64_MAX), "no such refusal") == 0, "the last number there is");
+    expect(strcmp(loamchalice_version(), LOAMCHALICE_VERSION) == 0, "the version");
 }
 
 static int told(loamchalice_settings settings) { return loamchalice_warning(&settings) != NULL; }
@@ -722,8 +900,8 @@ int main(int argc, char **argv) {
         return 2;
     }
     fclose(file);
-    expect(loamchalice_camera_load(&camera, LENT(card)).number == 0, "the card loads");
-    expect(loamchalice_camera_load(&camera, card, 1663).number == 1 && camera.record.gain != 0.0f, "a refused card leaves the camera");
+    expect(loamchalice_camera_load(&camera, LENT(card)).told.number == 0, "the card loads");
+    expect(loamchalice_camera_load(&camera, card, 1663).told.number == 1 && camera.record.gain != 0.0f, "a refused card leaves the camera");
     fill_frame();
     try_words();
     try_load();
@@ -741,6 +919,12 @@ int main(int argc, char **argv) {
     try_mlx90640();
     try_refused_cards();
     try_big_load();
+    try_card_k_frames();
+    try_signs_of_zero();
+    try_masks();
+    try_refused_big_frames();
+    try_odd_big_records();
+    try_texts();
     try_settings();
     try_gain();
     try_environment();
