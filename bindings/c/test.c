@@ -516,7 +516,7 @@ static void put_card_k(void) {
 
 /* Refused with a record that is all zero, and the tables are as before. */
 static int refused_card(loamchalice_mlx90640_loaded loaded, uint64_t number, uint64_t place) {
-    static const loamchalice_mlx90640_record none;
+    static loamchalice_mlx90640_record none; /* all zero */
     return REFUSED(loaded, number, place, 0) && memcmp(&loaded.calibration, &none, sizeof none) == 0 && memcmp(&big, &big_before, sizeof big) == 0;
 }
 
