@@ -1,2 +1,3 @@
--- The claim over the list of readings.
+-- The claim over the list of readings, and that of exact numbers.
 pub mod Readings
+pub mod Exact
