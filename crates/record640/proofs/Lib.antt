@@ -1,3 +1,2 @@
--- The claim over the list of readings, and that of exact numbers.
-pub mod Readings
+-- The claim of exact numbers.
 pub mod Exact
