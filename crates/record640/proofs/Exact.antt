@@ -27,7 +27,7 @@ use Rattle.mlx90640.proofs.Fields.{of-low}
 use Rattle.mlx90640.proofs.Sums.{valued, exactly}
 use Rattle.mlx90640.proofs.Exact as corrections
 use Rattle.mlx90640.proofs.Exact.{field, whole}
-use Rattle.record640.specs.Record.{kVPtat, kTPtat, alphaPtatOf, wholeOf, kVs, kVCp, kTaCp, alphaCp0, alphaCps, kSTa, gradientOf, kSTos, calibrationOf}
+use Rattle.record640.specs.Record.{kVPtat, kTPtat, alphaPtatOf, wholeOf, kVs, kVCp, kTaCp, alphaCp0, alphaCps, kSTa, gradientOf, kSTos, kVScale, kTaScale, calibrationOf}
 use Rattle.record640.specs.Exact.{ratio, three, two, Claim}
 
 -- ---- 1 + ratio, and alpha_CP of subpage 1
@@ -93,16 +93,20 @@ of-gradient false x y z h e = let q : y ≡ x = cc in subst (λ (x : Float). Exa
 whole-field : (n : ℕ) → Exactly (real (signed 16 n)) (signed 16 n) 0
 whole-field n = whole (signed 16 n) (let h = stands 16 (lit≤ tt) .range n in omega arith)
 
-nibble : (n : ℕ) → 8 + n % 16 ≤ 100
-nibble n = let h = mod-lt n (let z : 0 < 16 = lit< tt in z) in omega arith
+-- each scale is small
+k-v-small : (w : ℕ → ℕ) → kVScale w ≤ 100
+k-v-small w = omega arith
+
+k-ta-small : (w : ℕ → ℕ) → kTaScale w ≤ 100
+k-ta-small w = omega arith
+
+slope-small : (n : ℕ) → 8 + n % 16 ≤ 100
+slope-small n = omega arith
 
 pub exact : Claim
 unfolding calibrationOf kVPtat kTPtat alphaPtatOf wholeOf kVs kVCp kTaCp alphaCps kSTa gradientOf kSTos patternOf correctionsOf
 exact w short range =
     let c = corrections.exact (w 53) in
-    let k-v : w 56 / 256 % 16 ≤ 100 = let h = nibble (w 56 / 256) in omega arith in
-    let k-ta = nibble (w 56 / 16) in
-    let slope = nibble (w 63) in
     let x = over (three w) 3 in
     let y = over (two w) 1 in
     record {
@@ -113,19 +117,19 @@ exact w short range =
           also whole (pos (w 16 / 4096 / 4 + 8)) (let h = short 16 in omega arith)
           also whole-field (w 48)
           also field 8 _ 13 (lit≤ tt) (lit≤ tt) (lit≤ tt)
-          also field 8 _ _ (lit≤ tt) (lit≤ tt) k-v
-          also field 8 _ _ (lit≤ tt) (lit≤ tt) k-ta
+          also field 8 _ _ (lit≤ tt) (lit≤ tt) (k-v-small w)
+          also field 8 _ _ (lit≤ tt) (lit≤ tt) (k-ta-small w)
           also c .chess-1
           also none;
       lists =
-          field 8 _ _ (lit≤ tt) (lit≤ tt) slope
-          also field 8 _ _ (lit≤ tt) (lit≤ tt) slope
-          also field 8 _ _ (lit≤ tt) (lit≤ tt) slope
-          also field 8 _ _ (lit≤ tt) (lit≤ tt) slope
-          also field 4 _ _ (lit≤ tt) (lit≤ tt) k-v
-          also field 4 _ _ (lit≤ tt) (lit≤ tt) k-v
-          also field 4 _ _ (lit≤ tt) (lit≤ tt) k-v
-          also field 4 _ _ (lit≤ tt) (lit≤ tt) k-v
+          field 8 _ _ (lit≤ tt) (lit≤ tt) (slope-small _)
+          also field 8 _ _ (lit≤ tt) (lit≤ tt) (slope-small _)
+          also field 8 _ _ (lit≤ tt) (lit≤ tt) (slope-small _)
+          also field 8 _ _ (lit≤ tt) (lit≤ tt) (slope-small _)
+          also field 4 _ _ (lit≤ tt) (lit≤ tt) (k-v-small w)
+          also field 4 _ _ (lit≤ tt) (lit≤ tt) (k-v-small w)
+          also field 4 _ _ (lit≤ tt) (lit≤ tt) (k-v-small w)
+          also field 4 _ _ (lit≤ tt) (lit≤ tt) (k-v-small w)
           also alpha-first w short
           also one-more (w 57 / 1024)
           also alpha-second w short
