@@ -24,6 +24,7 @@ use Rattle.hamming.specs.Word.{dataValues}
 use Rattle.map.specs.declared.Field.the-variants.{Corner}
 use Rattle.map.specs.Map.{wordOf}
 use Rattle.ranges.specs.Coefficients as shared
+use Rattle.ranges.proofs.Zero.{no-zero}
 use Rattle.calibration.specs.Calibration.{kSTo, rangesOf}
 use Rattle.calibration.specs.Coefficients.{rangeCount, growth, above, below, coefficientAt, zeroFactor}
 
@@ -174,14 +175,6 @@ none-passes p none (suc n) h l r k =
     let s = step p none n (lastBelow p none n) (p n) refl (omega arith) l in
     one-more p n r (s .0) (none-passes p none n (omega arith) (s .1)) (eq-or-lt-of-le (let z : r ≤ n = omega arith in z))
 
--- and where none passes, none is found
-pub none-found : (p : ℕ → Bool) (none n : ℕ) → ((r : ℕ) → r < n → p r ≡ false) → lastBelow p none n ≡ none
-unfolding lastBelow
-none-found p none zero f = refl
-none-found p none (suc n) f = rw (f n (omega arith)) (none-found p none n (λ r h. f r (omega arith)))
-
 -- a basic range of 4 or less meets none
 pub no-zero-factor : (w : ℕ → ℕ) (range : ℕ) → range ≤ 4 → zeroFactor (rangesOf w) range ≡ rangeCount
-unfolding shared.zeroFactor
-no-zero-factor w range h =
-    none-found (λ (r : ℕ). isZero (growth (rangesOf w) r)) rangeCount range (λ r l. some-not-zero (growth (rangesOf w) r) (growth-some w r (omega arith)))
+no-zero-factor w range h = no-zero rangeCount _ _ range (λ r l. some-not-zero (growth (rangesOf w) r) (growth-some w r (omega arith)))

@@ -11,8 +11,7 @@ use lib.IntN.{ℤ, pos, negsuc, _-ℤ_}
 use lib.Signed.{mag}
 use lib.Ieee.{Float}
 use borrow.Author.Tests.{le-ltb, leb-false}
-use Rattle.lists.specs.Last.{lastBelow}
-use Rattle.floats.specs.Floats.{_⊕_, _⊗_, real, over, isZero}
+use Rattle.floats.specs.Floats.{_⊕_, _⊗_, real, over}
 use Rattle.floats.specs.Constants.{one}
 use Rattle.floats.proofs.Bound.{Some, some-not-zero}
 use Rattle.floats.proofs.Ratio.{large, Ratio, over-ratio, times-ratio, one-some, no-five}
@@ -26,7 +25,8 @@ use Rattle.refusal.proofs.Order.{never}
 use Rattle.util.specs.Fields.{signed}
 use Rattle.util.specs.Words.{wordAt}
 use Rattle.util.proofs.Width.{stands}
-use Rattle.ranges.specs.Coefficients.{growth, zeroFactor}
+use Rattle.ranges.specs.Coefficients.{growth}
+use Rattle.ranges.proofs.Zero as none
 use Rattle.record640.specs.Record.{cornersOf, cornersAt, kSTos}
 use Rattle.load640.specs.Load.{rangeCount, dataTests, loadTests}
 use Rattle.load640.specs.Never.{NoZero, Never}
@@ -84,16 +84,8 @@ module _ (w : ℕ → ℕ) where
       grown-some _ (field-ratio _ _) _ _ (above-other _ (w 63 / 2 ^ 4 % 16 * (w 63 / 2 ^ 12 % 4 * 10)) ∙ ap pos (fives (w 63 / 2 ^ 8 % 16) (w 63 / 2 ^ 12 % 4))) (few (w 63 / 2 ^ 8 % 16) (w 63 / 2 ^ 12 % 4) (steps (w 63 / 2 ^ 8) (w 63 / 2 ^ 12)))
   growth-some (suc (suc (suc r))) h = absurd (let q : ⊥ = omega arith in q)
 
--- where none passes, none is found
-none-found : (p : ℕ → Bool) (none n : ℕ) → ((r : ℕ) → r < n → p r ≡ false) → lastBelow p none n ≡ none
-unfolding lastBelow
-none-found p none zero f = refl
-none-found p none (suc n) f = rw (f n (omega arith)) (none-found p none n (λ r h. f r (omega arith)))
-
 pub no-zero : NoZero
-unfolding zeroFactor
-no-zero w range h =
-    none-found (λ (r : ℕ). isZero (growth (cornersAt w) (kSTos w) r)) rangeCount range (λ r l. some-not-zero (growth (cornersAt w) (kSTos w) r) (growth-some w r (omega arith)))
+no-zero w range h = none.no-zero rangeCount (cornersAt w) (kSTos w) range (λ r l. some-not-zero (growth (cornersAt w) (kSTos w) r) (growth-some w r (omega arith)))
 
 -- ---- no load is refused for it
 

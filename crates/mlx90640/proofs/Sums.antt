@@ -10,7 +10,8 @@ use Rattle.floats.specs.Floats.{powerOfTwo, over, _⊕_, _⊖_}
 use Rattle.util.specs.Fields.{signed}
 use Rattle.floats.specs.Exact.{Exactly}
 
-valued : Float → ℤ → ℕ → Bool
+-- whether x is z / 2 ^ e, as a test
+unfoldable pub valued : Float → ℤ → ℕ → Bool
 valued nan z e = false
 valued (inf t) z e = false
 valued (fin false m d) (pos n) e = eqb (m * up d * 2 ^ e) (n * down d)
@@ -18,7 +19,7 @@ valued (fin true m d) (negsuc n) e = eqb (m * up d * 2 ^ e) (suc n * down d)
 valued (fin true m d) (pos n) e = false
 valued (fin false m d) (negsuc n) e = false
 
-exactly : (x : Float) (z : ℤ) (e : ℕ) → T (valued x z e) → Exactly x z e
+pub exactly : (x : Float) (z : ℤ) (e : ℕ) → T (valued x z e) → Exactly x z e
 unfolding valued
 exactly nan z e t = absurd t
 exactly (inf s) z e t = absurd t

@@ -1,2 +1,2 @@
--- The claim over the list of readings.
-pub mod Readings
+-- The claim of exact numbers.
+pub mod Exact

@@ -14,10 +14,10 @@ use lib.Ieee.Scale.{round-same}
 use lib.Ieee.Fits.{down-pos}
 use borrow.Author.Tests.{ltb-true, ltb-false, lt-ltb, le-ltb}
 use Rattle.floats.specs.Floats.{real, _⊕_}
-use Rattle.floats.specs.Exact.{Exactly}
 use Rattle.floats.proofs.Exact.{over-exact}
 use Rattle.floats.proofs.Ratio.{large, below-zero, real-value}
 use Rattle.util.proofs.Range.{sum-mag}
+use Rattle.mlx90640.proofs.Exact.{whole}
 use Rattle.sums640.specs.Sums.{alphaBaseAt, alphaRestAt, kTaSumAt, alphaAt, kTaAt}
 use Rattle.sums640.specs.Exact.{Exact}
 use Rattle.sums640.proofs.Range.{alpha-base-mag, alpha-rest-mag, k-ta-sum-mag}
@@ -113,10 +113,6 @@ real-sum a b h k =
     sum-at (real a) (real b) (below-zero a) (below-zero b) (large a) (large b) (real-value a (most a h)) (real-value b (most b k)) ∙ signs a b
 
 -- ---- a pixel's numbers
-
-pub whole : (z : ℤ) → mag z < 2 ^ 23 → Exactly (real z) z 0
-whole (pos n) h = real-value (pos n) (omega arith)
-whole (negsuc n) h = real-value (negsuc n) (omega arith)
 
 module _ (w : ℕ → ℕ) (pixel : ℕ) where
   b-small : mag (alphaBaseAt w pixel) < 2 ^ 23

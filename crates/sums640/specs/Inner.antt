@@ -8,6 +8,8 @@ use lib.IntN.{ℤ, pos, _+ℤ_}
 use Rattle.lists.specs.Each.{Each}
 use Rattle.lists.specs.Pick.{pick}
 use Rattle.util.specs.Fields.{signed}
+use Rattle.map640.specs.declared.Field.the-variants.{OffsetRow, AlphaRow, KTaAverage}
+use Rattle.map640.specs.Map.{wordOf}
 use Rattle.sums640.specs.Sums.{scaled, rowScale, columnScale, averageAt}
 
 unfoldable pub nibbleAt : (ℕ → ℕ) → ℕ → ℕ → ℕ → ℤ
@@ -24,6 +26,10 @@ partFrom w first k = pick (ltb k 24) (rowFrom w first k) (columnFrom w first (k 
 
 abbrev pub sharedCount : ℕ
 sharedCount = 116
+
+-- the word that one is read from: four rows or columns to a word, two averages
+unfoldable pub sharedWord : ℕ → ℕ
+sharedWord k = pick (ltb k 56) (wordOf OffsetRow (k / 4)) (pick (ltb k 112) (wordOf AlphaRow ((k - 56) / 4)) (wordOf KTaAverage ((k - 112) / 2)))
 
 unfoldable pub sharedAt : (ℕ → ℕ) → ℕ → ℤ
 sharedAt w k = pick (ltb k 56) (partFrom w 16 k) (pick (ltb k 112) (partFrom w 32 (k - 56)) (averageAt w (k - 112)))

@@ -9,7 +9,8 @@ ghost use Rattle.lists.specs.Written.{filled};
 ghost use Rattle.util.specs.Words.{wordAt};
 ghost use Rattle.util.specs.Fields.{signed};
 ghost use Rattle.sums640.specs.Sums.{pixelCount, scaled, averageBytes, averageAt, offsetAt, alphaRestAt, kTaSumAt, alphaAt, kTaAt, outsideAt, firstOutside};
-ghost use Rattle.sums640.specs.Inner.{nibbleAt, rowFrom, columnFrom, partFrom, sharedCount, sharedAt, Shared};
+ghost use Rattle.sums640.specs.Inner.{nibbleAt, rowFrom, columnFrom, sharedCount, sharedWord, sharedAt, Shared};
+use map640::Field;
 
 pub const PIXELS: usize = 768;
 
@@ -108,28 +109,34 @@ fn k_ta_average(image: &[u8], entry: usize) -> i32
 
 // ---- What many pixels share
 
-// One of 24 rows and 32 columns, from the word of scales on.
-fn part(image: &[u8], first: usize, index: usize) -> i32
-    requires { ⌜ (first ≤ 32) × (index < 56) × (1664 ≤ length (now image)) ⌝ }
-    ensures { λ r. ⌜ r ≡ partFrom (wordAt (now (image .entry))) first index ⌝ }
+// The word that a shared number is read from: four rows or columns to a word, two averages.
+fn shared_word(index: usize) -> usize
+    requires { ⌜ index < sharedCount ⌝ }
+    ensures { λ r. ⌜ r ≡ sharedWord index ⌝ }
 {
-    if index < 24 {
-        return row_sum(image, first, index);
+    if index < 56 {
+        return map640::OFFSET_SCALES + 2 + index / 4;
     }
-    column(image, first, index - 24)
+    if index < 112 {
+        return map640::ALPHA_SCALES + 2 + (index - 56) / 4;
+    }
+    map640::K_TA_AVERAGE + (index - 112) / 2
 }
 
+// A shared number, by what the map says of its word.
 fn shared_at(image: &[u8], index: usize) -> i32
     requires { ⌜ (index < sharedCount) × (1664 ≤ length (now image)) ⌝ }
     ensures { λ r. ⌜ r ≡ sharedAt (wordAt (now (image .entry))) index ⌝ }
 {
-    if index < 56 {
-        return part(image, map640::OFFSET_SCALES, index);
+    let field = map640::field_of(shared_word(index));
+    match field {
+        Field::OffsetRow => row_sum(image, map640::OFFSET_SCALES, index),
+        Field::OffsetColumn => column(image, map640::OFFSET_SCALES, index - 24),
+        Field::AlphaRow => row_sum(image, map640::ALPHA_SCALES, index - 56),
+        Field::AlphaColumn => column(image, map640::ALPHA_SCALES, index - 80),
+        Field::KTaAverage => k_ta_average(image, index - 112),
+        _ => 0,
     }
-    if index < 112 {
-        return part(image, map640::ALPHA_SCALES, index - 56);
-    }
-    k_ta_average(image, index - 112)
 }
 
 // All of them, into the start of a list.

@@ -65,8 +65,7 @@ load-spec =
     (λ c κs. search needs)
     (λ c. search needs)
     (λ c. search needs)
-    (λ c κs. search needs)
-    returns
+    (λ c κs. search needs) returns
     (λ c. search needs)
     fill-all-requires
     (λ c. search needs)

@@ -7,8 +7,10 @@ use Rattle.lists.specs.All.{All, none, _also_}
 use Rattle.floats.specs.Floats.{powerOfTwo}
 use Rattle.util.specs.Fields.{signed, minus}
 use Rattle.mlx90640.specs.Corrections.{correctionsOf, patternOf}
+use Rattle.mlx90640.specs.Pixels.{chessboardAt}
+use Rattle.sums640.specs.Sums.{scaled, coefficientAt, rowSumAt, columnAt, baseAt, offsetAt, alphaBaseAt, alphaRestAt, averageAt, kTaSumAt}
 use Rattle.record640.specs.Record.{calibrationOf, kVDdOf, vDd25Of, kVPtat, kTPtat, alphaPtatOf, offsetCpsOf, gradientOf, kSTos, cornersAt, cornersOf}
-use Rattle.record640.specs.Readings.{Holds, supply, ambient, alphaPtat, access, slopes, readings}
+use Rattle.load640.specs.Readings.{Holds, supply, ambient, alphaPtat, access, slopes, rows, rests, readings}
 
 -- ---- those that say more than one thing
 
@@ -48,10 +50,26 @@ own-scale : Holds (slopes 0x0201 0x2889 (pos 1) (pos 2) 17)
 unfolding calibrationOf kSTos signed powerOfTwo div ofInt round size span climb units odd trailingZeros
 own-scale = ((refl, refl), (refl, refl))
 
+nibbles : Holds (rows 0x4321 (pos 1) (pos 2) (pos 3) (pos 4))
+unfolding offsetAt alphaBaseAt baseAt rowSumAt columnAt coefficientAt scaled signed
+nibbles = (refl, refl, refl, refl, refl, refl, refl, refl)
+
+all-minus : Holds (rests 0xFFFE (minus 1) (minus 1) (minus 1))
+unfolding offsetAt alphaRestAt kTaSumAt averageAt chessboardAt baseAt rowSumAt columnAt coefficientAt scaled signed
+all-minus = (refl, refl, refl)
+
+bit-0-not-read : Holds (rests 0x0011 (pos 0) (pos 1) (pos 0))
+unfolding offsetAt alphaRestAt kTaSumAt averageAt chessboardAt baseAt rowSumAt columnAt coefficientAt scaled signed
+bit-0-not-read = (refl, refl, refl)
+
+mixed : Holds (rests 0x041E (pos 1) (pos 1) (minus 1))
+unfolding offsetAt alphaRestAt kTaSumAt averageAt chessboardAt baseAt rowSumAt columnAt coefficientAt scaled signed
+mixed = (refl, refl, refl)
+
 -- ---- all
 
 pub claim : All Holds readings
 unfolding calibrationOf offsetCpsOf gradientOf cornersAt cornersOf signed powerOfTwo ofBits ofFields div ofInt round size span climb units odd trailingZeros
 claim =
     volts also lowest also ptat also eight also nine also eleven also pattern also refl also least-scale also own-scale
-    also refl also refl also refl also refl also none
+    also refl also refl also refl also refl also nibbles also all-minus also bit-0-not-read also mixed also none
