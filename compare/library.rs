@@ -170,13 +170,14 @@ fn exchanged(word: u16) -> u16 {
 
 // The card as a reader would have it that makes one of these slips.
 fn slipped_640(image: &[u8]) -> Vec<u8> {
-    let slips: [(bool, std::ops::Range<usize>, fn(u16) -> u16); 10] = [
+    let slips: [(bool, std::ops::Range<usize>, fn(u16) -> u16); 11] = [
         (planted("bigger-rows-from-the-top"), 18..24, turned),
         (planted("bigger-columns-from-the-top"), 24..32, turned),
         (planted("bigger-alpha-rows-from-the-top"), 34..40, turned),
         (planted("bigger-alpha-columns-from-the-top"), 40..48, turned),
         (planted("bigger-word-16-from-the-lowest"), 16..17, turned),
         (planted("bigger-word-32-from-the-lowest"), 32..33, turned),
+        (planted("bigger-word-52-from-the-lowest"), 52..53, turned),
         (planted("bigger-word-56-from-the-lowest"), 56..57, turned),
         (planted("bigger-word-63-from-the-lowest"), 63..64, turned),
         (planted("bigger-k-s-to-by-bytes"), 61..63, u16::swap_bytes),
