@@ -1,9 +1,10 @@
-//! The MLX90640's cards: what its paper says of the verdict, what the crate as published says of record and tables, and cards to try.
+//! The MLX90640's cards: what its paper says of the verdict, what the crate as published says of record and tables, and cards to try. Which build of the crate,
+//! with or without overflow checks, is said by `bigger_crate` of the program.
+use crate::bigger_crate::mlx90640::Mlx90640Calibration;
+use crate::bigger_crate::{AccessPattern, CalibrationData, Subpage};
 use crate::document::Verdict;
 use crate::numbers::Numbers;
 use crate::tally::of_crate;
-use mlx9064x::mlx90640::Mlx90640Calibration;
-use mlx9064x::{AccessPattern, CalibrationData, Subpage};
 
 pub const BASIC: usize = 1;
 pub const PIXELS: usize = 768;

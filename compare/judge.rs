@@ -1,12 +1,14 @@
 //! The judge: the crate and the library on the same inputs, everything compared bit for bit.
 //!   judge [SEED [CARDS [FRAMES [PLANTED]]]]
 //! Any not-a-number of the crate's equals the library's, which must have the bits 0x7FC00000. What stops a call is worked out here
-//! afresh from document 01, and set beside the crate's errors and panics. The exit status is 0 if nothing disagreed.
+//! afresh from document 01, or the MLX90640's paper, and set beside the crate's errors and panics. The exit status is 0 if nothing disagreed.
 mod bigger;
 mod cards;
+mod cards640;
 mod document;
 mod frames;
 mod library;
+mod loads640;
 mod numbers;
 mod roots;
 mod tally;
@@ -14,6 +16,7 @@ mod words;
 
 include!("subjects.rs");
 
+use mlx9064x_wrapping as bigger_crate;
 use tally::Tally;
 
 fn main() {
@@ -30,12 +33,13 @@ fn main() {
             shown(info);
         }
     }));
-    println!("seed {seed}, {cards} cards, {frames} frames, {}", std::env::consts::ARCH);
+    println!("seed {seed}, {cards} cards of each camera, {frames} frames, {}", std::env::consts::ARCH);
     let mut tally = Tally::new();
     words::compare(&mut tally);
     bigger::compare(&mut tally);
     roots::compare(&mut tally);
     cards::compare(&mut tally, seed, cards);
+    loads640::compare(&mut tally, seed, cards);
     frames::compare(&mut tally, seed, frames);
     tally.report();
     if tally.disagreements > 0 {

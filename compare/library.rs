@@ -5,7 +5,7 @@ use std::sync::OnceLock;
 #[path = "../bindings/rust/src/border.rs"]
 pub mod border;
 use border::{Average, Camera, Filtered, Input, Pixels, Settings};
-pub use border::{AccessPattern, Answer, Load, Part, PixelEntry, Ram, Record, SixTen, Word};
+pub use border::{AccessPattern, Answer, Load, Load640, Part, PixelEntry, Ram, Record, Record640, SixTen, Word};
 
 /// The five tables of a card.
 #[derive(Clone, Debug)]
@@ -134,6 +134,149 @@ pub fn chessboard_entry(pixel: usize) -> PixelEntry {
         entry.place = 0;
     }
     entry
+}
+
+/// The three tables of the MLX90640's card.
+#[derive(Clone, Debug)]
+pub struct Tables640 {
+    pub offsets: Vec<i32>,
+    pub alpha: Vec<f32>,
+    pub k_ta: Vec<f32>,
+}
+
+impl Tables640 {
+    pub fn shortest(&self) -> usize {
+        self.offsets.len().min(self.alpha.len()).min(self.k_ta.len())
+    }
+}
+
+fn word_of(image: &[u8], k: usize) -> u16 {
+    u16::from_be_bytes([image[2 * k], image[2 * k + 1]])
+}
+
+fn put_word(image: &mut [u8], k: usize, word: u16) {
+    image[2 * k..2 * k + 2].copy_from_slice(&word.to_be_bytes());
+}
+
+// The lowest nibble first.
+fn turned(word: u16) -> u16 {
+    word >> 12 | word >> 4 & 0xF0 | word << 4 & 0xF00 | word << 12
+}
+
+// Entries 1 and 2 of a chessboard of nibbles.
+fn exchanged(word: u16) -> u16 {
+    word & 0xF00F | word >> 4 & 0xF0 | word << 4 & 0xF00
+}
+
+// The card as a reader would have it that makes one of these slips.
+fn slipped_640(image: &[u8]) -> Vec<u8> {
+    let slips: [(bool, std::ops::Range<usize>, fn(u16) -> u16); 11] = [
+        (planted("bigger-rows-from-the-top"), 18..24, turned),
+        (planted("bigger-columns-from-the-top"), 24..32, turned),
+        (planted("bigger-alpha-rows-from-the-top"), 34..40, turned),
+        (planted("bigger-alpha-columns-from-the-top"), 40..48, turned),
+        (planted("bigger-word-16-from-the-lowest"), 16..17, turned),
+        (planted("bigger-word-32-from-the-lowest"), 32..33, turned),
+        (planted("bigger-word-52-from-the-lowest"), 52..53, turned),
+        (planted("bigger-word-56-from-the-lowest"), 56..57, turned),
+        (planted("bigger-word-63-from-the-lowest"), 63..64, turned),
+        (planted("bigger-k-s-to-by-bytes"), 61..63, u16::swap_bytes),
+        (planted("bigger-k-v-chessboard-exchanged"), 52..53, exchanged),
+    ];
+    let mut image = image.to_vec();
+    if image.len() < 1664 {
+        return image;
+    }
+    for (_, words, slip) in slips.into_iter().filter(|(planted, _, _)| *planted) {
+        for k in words {
+            let word = slip(word_of(&image, k));
+            put_word(&mut image, k, word);
+        }
+    }
+    if planted("bigger-k-ta-chessboard-exchanged") {
+        image.swap(2 * 54 + 1, 2 * 55);
+    }
+    image
+}
+
+// The record of a card that loads, with one of these slips.
+fn spoil_record_640(image: &[u8], r: &mut Record640) {
+    if planted("bigger-alpha-cp-over-30") {
+        r.alpha_cp = r.alpha_cp.map(|x| x / 8.0);
+    }
+    if planted("bigger-k-v-scale-plus-8") {
+        r.k_v = r.k_v.map(|x| x / 256.0);
+        r.k_v_cp /= 256.0;
+    }
+    let raw = f32::from(word_of(image, 57) % 1024);
+    if planted("bigger-alpha-cp-signed") && raw >= 512.0 {
+        r.alpha_cp = r.alpha_cp.map(|x| x / raw * (raw - 1024.0));
+    }
+    if planted("bigger-alpha-ptat-fraction") {
+        r.alpha_ptat = 8.0 + f32::from(word_of(image, 16) >> 12) / 4.0;
+    }
+    if planted("bigger-gradient-0-given") {
+        r.has_gradient = 1;
+    }
+    if planted("bigger-alpha-cp-of-subpage-0") {
+        r.alpha_cp[1] = r.alpha_cp[0];
+    }
+    if planted("bigger-access-sign-of-zero") {
+        r.access_pattern = r.access_pattern.map(|x| x + 0.0);
+    }
+    if planted("bigger-coefficient-last-place") {
+        r.range_coefficients[3] = f32::from_bits(r.range_coefficients[3].to_bits() ^ 1);
+    }
+}
+
+// Tables and verdict, with one of these slips. The sum of an alpha's two whole numbers comes out of its table: nothing of it was rounded.
+fn spoil_640(image: &[u8], before: &Tables640, t: &mut Tables640, answer: &mut Load640) {
+    let scale = 2f32.powi(30 + i32::from(word_of(image, 32) >> 12));
+    if planted("bigger-alpha-average-unsigned") && answer.number == 0 && word_of(image, 33) >= 0x8000 {
+        t.alpha[..768].iter_mut().for_each(|x| *x += 65536.0 / scale);
+    }
+    if planted("bigger-five-by-the-offset-alone") && answer.number == 5 {
+        let mut plain = image.to_vec();
+        plain[2 * 32..2 * 48].fill(0);
+        plain[2 * 54..2 * 57].fill(0);
+        *answer = border::mlx90640_load(&plain, 1, &mut t.offsets, &mut t.alpha, &mut t.k_ta);
+    }
+    let large = t.alpha.iter().take(768).position(|x| !(-32768.0..32768.0).contains(&(x * scale)));
+    if let Some(pixel) = large.filter(|_| planted("bigger-five-by-the-sum-of-alpha") && answer.number == 0) {
+        (answer.number, answer.place) = (5, pixel as u64);
+        *t = before.clone();
+    }
+    if planted("bigger-five-at-the-next") && answer.number == 5 {
+        answer.place += 1;
+    }
+    if planted("bigger-refusal-5-writes") && answer.number == 5 {
+        t.offsets[0] += 1;
+    }
+    if planted("bigger-entry-768-written") && answer.number == 0 && t.k_ta.len() > 768 {
+        t.k_ta[768] = 0.0;
+    }
+    if planted("bigger-last-offset-left") && answer.number == 0 {
+        t.offsets[767] = before.offsets[767];
+    }
+}
+
+pub fn load_640(image: &[u8], basic: usize, tables: &mut Tables640) -> Load640 {
+    if PLANTED.get().is_none() {
+        return border::mlx90640_load(image, basic, &mut tables.offsets, &mut tables.alpha, &mut tables.k_ta);
+    }
+    let before = tables.clone();
+    let read = slipped_640(image);
+    let mut answer = border::mlx90640_load(&read, basic, &mut tables.offsets, &mut tables.alpha, &mut tables.k_ta);
+    if planted("bigger-six-before-five") && answer.number == 5 && basic > 3 {
+        (answer.number, answer.place) = (6, basic as u64);
+    }
+    if answer.number == 0 {
+        spoil_record_640(image, &mut answer.calibration);
+    }
+    if image.len() >= 1664 && tables.shortest() >= 768 {
+        spoil_640(image, &before, tables, &mut answer);
+    }
+    answer
 }
 
 pub fn alpha_row(image: &[u8], row: usize) -> Part {

@@ -24,6 +24,7 @@ use cards::{by_crate, image_of, offset_card, record_of, sound, tables_of};
 use document::{Code, Data, Verdict};
 use frames::{by_ranges, of_call, steadied, Said};
 use library::{Frame, Record, Tables, BASIC, HEATS};
+use mlx9064x as bigger_crate;
 use mlx9064x::error::LibraryError;
 use mlx9064x::mlx90641::hamming::{add_checksum, validate_checksum};
 use mlx9064x::CalibrationData;

@@ -2,14 +2,24 @@
 //! All three take turns, so that a busy machine slows them alike; each figure is the least of many rounds, and a round times each of them for less
 //! than half a millisecond, since longer times have the scheduler's other work in them. What they answer is compared first.
 #[allow(dead_code)]
+mod cards640;
+#[allow(dead_code)]
+mod document;
+#[allow(dead_code)]
 mod library;
+#[allow(dead_code)]
+mod numbers;
+#[allow(dead_code)]
+mod tally;
 
-use library::{border, Frame, Ram, Tables};
+use library::{border, Frame, Ram, Tables, Tables640};
+use mlx9064x as bigger_crate;
 use std::hint::black_box;
 use std::time::Instant;
 
 const FRAMES: usize = 32;
 const CARDS: usize = 96;
+const BIGGER_CARDS: usize = 48;
 const ROUNDS: usize = 500;
 const IMAGE: &[u8; 1664] = include_bytes!("../cards/sound.bin");
 const EIGHT_MENDED: &[u8; 1664] = include_bytes!("../cards/mended.bin");
@@ -20,6 +30,7 @@ macro_rules! subject {
         mod $name {
             use crate::library::Frame;
             use $subject::calculations::{self, RamData};
+            use $subject::mlx90640::Mlx90640Calibration;
             use $subject::mlx90641::hamming::validate_checksum;
             use $subject::mlx90641::{Mlx90641, Mlx90641Calibration};
             use $subject::{AccessPattern, MelexisCamera, Subpage};
@@ -27,6 +38,11 @@ macro_rules! subject {
             #[inline(never)]
             pub fn load(image: &[u8]) -> Option<Mlx90641Calibration> {
                 Mlx90641Calibration::from_data(image).ok()
+            }
+
+            #[inline(never)]
+            pub fn load_640(image: &[u8]) -> Option<Mlx90640Calibration> {
+                Mlx90640Calibration::from_data(image).ok()
             }
 
             #[inline(never)]
@@ -258,6 +274,40 @@ fn time_cards() {
     }
 }
 
+/// Realistic cards of the MLX90640, and what a refusal costs where the crate goes on: a blank card, and one whose last pixel alone is too large.
+fn time_cards_640() {
+    let mut n = numbers::Numbers::new(1);
+    let realistic: Vec<Vec<u8>> = (0..16).map(|_| cards640::image_of(&cards640::realistic(&mut n))).collect();
+    let last = cards640::image_of(&cards640::zero_but(&[(17, 0x7FFF), (831, 0x0400)]));
+    let kinds = [
+        ("load, a card of the MLX90640", realistic, 0),
+        ("load, a blank card of the MLX90640", vec![vec![0xFF; 1664]], 5),
+        ("load, a card of the MLX90640 whose last pixel is too large", vec![last], 5),
+    ];
+    let mut tables = Tables640 { offsets: vec![0; 768], alpha: vec![0.0; 768], k_ta: vec![0.0; 768] };
+    for (what, images, number) in &kinds {
+        for image in images {
+            assert_eq!(library::load_640(image, cards640::BASIC, &mut tables).number, *number, "{what}");
+            let c = published::load_640(image).expect("the crate goes on");
+            let bits = |table: &[f32]| table.iter().map(|x| x.to_bits()).collect();
+            let ours: [Vec<u32>; 3] = [tables.offsets.iter().map(|x| *x as u32).collect(), bits(&tables.alpha), bits(&tables.k_ta)];
+            assert!(*number != 0 || ours == cards640::tables(&c), "the same tables");
+        }
+    }
+    let mut least = [[f64::MAX; 3]; 3];
+    for _ in 0..ROUNDS {
+        for ((_, images, _), load) in kinds.iter().zip(&mut least) {
+            let n = images.len();
+            keep(&mut load[0], time(BIGGER_CARDS, |k| { black_box(published::load_640(black_box(&images[k % n]))); }));
+            keep(&mut load[1], time(BIGGER_CARDS, |k| { black_box(rooted::load_640(black_box(&images[k % n]))); }));
+            keep(&mut load[2], time(BIGGER_CARDS, |k| { black_box(library::load_640(black_box(&images[k % n]), cards640::BASIC, black_box(&mut tables))); }));
+        }
+    }
+    for ((what, _, _), least) in kinds.iter().zip(least) {
+        line(what, least);
+    }
+}
+
 fn time_words() {
     let words = words();
     let mut least = [[f64::MAX; 3]; 3];
@@ -275,8 +325,9 @@ fn time_words() {
 }
 
 fn main() {
-    println!("least of {ROUNDS} rounds; {FRAMES} frames, {CARDS} cards and once every word in each");
+    println!("least of {ROUNDS} rounds; {FRAMES} frames, {CARDS} cards, {BIGGER_CARDS} of the MLX90640, and once every word in each");
     time_frames();
     time_cards();
+    time_cards_640();
     time_words();
 }
