@@ -18,7 +18,7 @@ fn cards_are_refused_by_number_place_and_value() {
 #[test]
 fn a_refusal_says_itself() {
     let refusal = Calibration::from_data(include_bytes!("../cards/damaged.bin")).unwrap_err();
-    assert_eq!(refusal.to_string(), "refusal 3: word 100 is damaged: 0x0204");
+    assert_eq!(refusal.to_string(), "refusal 3: a chip word is damaged (word 100, 0x0204)");
     let _: &dyn std::error::Error = &refusal;
 }
 
@@ -92,7 +92,7 @@ fn the_bigger_camera_has_768_pixels() {
     }
     let refusal = interleave_entry(768).unwrap_err();
     assert_eq!((refusal.number(), refusal.place(), refusal.value()), (14, 768, 0));
-    assert_eq!(refusal.to_string(), "refusal 14: there is no pixel 768, only 0 to 767");
+    assert_eq!(refusal.to_string(), "refusal 14: there is no such pixel (pixel 768)");
     assert_eq!((interleave_entry(767), chessboard_entry(767)), (Ok(5), Ok(3)));
 }
 
@@ -130,7 +130,7 @@ fn a_changed_word_is_loaded() {
     card.data[813] = 2048;
     let refused = card.write().unwrap_err();
     assert_eq!((refused.number(), refused.place(), refused.value()), (9, 813, 2048));
-    assert_eq!(refused.to_string(), "refusal 9: entry 813 of the data is 2048, above 2047");
+    assert_eq!(refused.to_string(), "refusal 9: data is above 2047 (entry 813, data 2048)");
 }
 
 // A wiped card with these data; a checked word from 21 on stands 18 entries earlier in their list.
@@ -150,7 +150,7 @@ fn range_coefficients_begin_at_the_basic_range() {
     let zero = with_words(&[(57, 2047), (58, 121)]);
     let refused = Calibration::from_data_in(&zero, 5).unwrap_err();
     assert_eq!((refused.number(), refused.place(), refused.value()), (13, 4, 0));
-    assert_eq!(refused.to_string(), "refusal 13: the coefficient of range 4 would be divided by zero");
+    assert_eq!(refused.to_string(), "refusal 13: a range coefficient would be divided by zero (range 4)");
     assert_eq!(Calibration::from_data_in(&zero, 4).unwrap().range_coefficients(), &[1.0, 1.0, 1.0, 1.0, 1.0, 0.0, 0.0, 0.0]);
     assert_eq!(Calibration::from_data_in(&zero, 8).err(), Some(Refusal::BasicRange { range: 8 }));
 }
