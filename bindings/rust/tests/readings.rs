@@ -1,5 +1,8 @@
 //! Readings of document 01 through the binding.
-use loamchalice::{burn, environment_is_default, next_step, scrub, Burnt, Calibration, Card, Filter, RamData, Reader, Refusal, Settings, Subpage, ALL_PIXELS};
+use loamchalice::{
+    add_checksum, alpha_row, burn, check_word, environment_is_default, fourth_root, next_step, scrub, subpage_offsets, validate_checksum, Burnt, Calibration,
+    Card, Checked, Filter, RamData, Reader, Refusal, Settings, Subpage, ALL_PIXELS,
+};
 
 const SOUND: &[u8] = include_bytes!("../cards/sound.bin");
 const ROOM: RamData = RamData { t_a_v_be: 19442, t_a_ptat: 1711, v_dd_pixel: -13115, gain: 6391, compensation_pixel: -105 };
@@ -73,6 +76,62 @@ fn refusals_of_frames() {
     assert_eq!(call(usual, RamData { v_dd_pixel: 32767, ..ROOM }), Some(7));
     assert_eq!(call(usual, RamData { gain: 0, ..ROOM }), Some(8));
     assert_eq!(call(Settings { emissivity: f32::NAN, ..usual }, ROOM), Some(8));
+}
+
+// All 65,536 words: 2048 are codewords, 16 more are one flip from each, and the rest is damaged.
+#[test]
+fn every_chip_word_is_checked() {
+    let mut counts = [0; 3];
+    for word in 0..=u16::MAX {
+        match check_word(word) {
+            Ok(Checked::Clean(data)) => {
+                assert_eq!(add_checksum(data), Ok(word));
+                counts[0] += 1;
+            }
+            Ok(Checked::Mended { data, bit }) => {
+                assert_eq!(add_checksum(data), Ok(word ^ 1 << bit));
+                counts[1] += 1;
+            }
+            Err(refusal) => {
+                assert_eq!(refusal, Refusal::DamagedWord { word: 0, bits: word });
+                counts[2] += 1;
+            }
+        }
+        assert_eq!(validate_checksum(word), check_word(word).map(Checked::data));
+    }
+    assert_eq!(counts, [2048, 32768, 30720]);
+    assert!((2048..=u16::MAX).all(|data| add_checksum(data) == Err(Refusal::DataTooLarge { data })));
+}
+
+#[test]
+fn parts_are_parts_of_what_is_lent() {
+    for row in 0..6 {
+        assert_eq!(alpha_row(SOUND, row), &SOUND[512 + 64 * row..576 + 64 * row]);
+    }
+    assert!(alpha_row(SOUND, usize::MAX).is_empty() && alpha_row(&SOUND[..1663], 0).is_empty());
+    let (zero, one): (Vec<i32>, Vec<i32>) = ((0..200).collect(), (1000..1192).collect());
+    assert_eq!(subpage_offsets(&zero, &one, Subpage::Zero), &zero[..192]);
+    assert_eq!(subpage_offsets(&zero, &one, Subpage::One), &one[..]);
+    for x in [0.0, 1.0, 16.0, 6561.0, 2f32.powi(100)] {
+        assert_eq!(fourth_root(x), x.sqrt().sqrt());
+    }
+    assert!(fourth_root(-1.0).is_nan());
+}
+
+#[test]
+fn corners_that_do_not_rise_stop_the_second_pass_alone() {
+    let mut card = Card::words(SOUND).unwrap();
+    card.data[58 - 18] = 0; // corner 5 at 0 degrees
+    let camera = Calibration::from_data(&card.write().unwrap()).unwrap();
+    let mut picture = [7.5f32; 192];
+    for average in [None, Some(-105.0)] {
+        let refused = camera.filtered_pixels_to_ranged_temperatures(&Settings::default(), ROOM, average, Subpage::Zero, &[0; 384], &ALL_PIXELS, &mut picture);
+        assert_eq!(refused, Err(Refusal::UnorderedCorners { corner: 5 }));
+    }
+    let refused = camera.raw_pixels_to_ranged_temperatures(&Settings::default(), ROOM, Subpage::One, &[0; 384], &ALL_PIXELS, &mut picture);
+    assert_eq!(refused, Err(Refusal::UnorderedCorners { corner: 5 }));
+    assert_eq!(picture, [7.5; 192]);
+    assert!(camera.picture(&Settings::default(), ROOM, Subpage::One, &[0; 384]).is_ok());
 }
 
 #[test]
