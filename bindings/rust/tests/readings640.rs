@@ -26,7 +26,10 @@ fn pixels_of(pixel: i16) -> Vec<u8> {
     pixel.to_be_bytes().repeat(NUM_PIXELS)
 }
 
-fn told(refusal: Refusal) -> (u64, u64, u64) {
+// Number, place and value.
+type Told = (u64, u64, u64);
+
+fn told(refusal: Refusal) -> Told {
     (refusal.number(), refusal.place(), refusal.value())
 }
 
@@ -258,6 +261,9 @@ fn a_picture_is_two_halves() {
     assert_eq!(camera.picture(&settings, Pattern::Chess, broken), Err(Refusal::ZeroDivisor));
 }
 
+// A name, what is handed in, and what stops each call.
+type Case<'a> = (&'a str, &'a Calibration, Settings, RamData, [Option<Told>; 3]);
+
 #[test]
 fn frames_are_refused_and_change_nothing() {
     let camera = Calibration::from_data(K).unwrap();
@@ -268,7 +274,7 @@ fn frames_are_refused_and_change_nothing() {
     let usual = camera.settings(2);
     let supply = |v_dd_pixel: i16| RamData { v_dd_pixel, ..ROOM };
     let none = |refused: u64, place: u64| [Some((refused, place, 0)); 3];
-    let cases: [(&str, &Calibration, Settings, RamData, [Option<(u64, u64, u64)>; 3]); 12] = [
+    let cases: [Case; 12] = [
         ("good", &camera, usual, ROOM, [None; 3]),
         ("range", &camera, Settings { basic_range: 4, ..usual }, ROOM, [None, Some((6, 4, 0)), Some((6, 4, 0))]),
         ("any range", &camera, Settings { basic_range: usize::MAX, ..usual }, ROOM, [None, Some((6, u64::MAX, 0)), Some((6, u64::MAX, 0))]),
