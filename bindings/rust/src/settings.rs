@@ -48,7 +48,7 @@ impl Settings {
     pub(crate) fn warning_of(&self, ranges: usize) -> Option<&'static str> {
         let positive = |x: f32| x > 0.0 && x.is_finite();
         if self.basic_range >= ranges {
-            return Some(if ranges == RANGES { "the basic range is above 7" } else { "the basic range is above 3" });
+            return Some("the camera has no such basic range");
         }
         if !(positive(self.emissivity) && self.emissivity <= 1.0) {
             return Some("the emissivity is not above 0 and at most 1");

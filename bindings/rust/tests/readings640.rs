@@ -399,12 +399,14 @@ fn settings_are_warned_of_by_the_cameras_ranges() {
     let camera = Calibration::from_data(K).unwrap();
     let usual = camera.settings(2);
     assert_eq!(camera.settings_warning(&usual), None);
-    for (basic_range, told) in [(0, None), (3, None), (4, Some("the basic range is above 3")), (7, Some("the basic range is above 3"))] {
+    let none = Some("the camera has no such basic range");
+    for (basic_range, told) in [(0, None), (3, None), (4, none), (7, none), (usize::MAX, none)] {
         assert_eq!(camera.settings_warning(&Settings { basic_range, ..usual }), told);
     }
     assert!(camera.settings_warning(&Settings { emissivity: 95.0, ..usual }).is_some());
     // The same numbers for the other camera.
     let other = loamchalice::Calibration::from_data(include_bytes!("../cards/sound.bin")).unwrap();
     assert_eq!(other.settings_warning(&Settings { basic_range: 7, ..usual }), None);
-    assert_eq!(other.settings_warning(&Settings { basic_range: 8, ..usual }), Some("the basic range is above 7"));
+    assert_eq!(other.settings_warning(&Settings { basic_range: 8, ..usual }), none);
+    assert_eq!(Settings { basic_range: 8, ..usual }.warning(), none);
 }
