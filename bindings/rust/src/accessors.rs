@@ -14,9 +14,11 @@ macro_rules! accessors {
                 self.record.resolution
             }
 
-            /// What looks wrong in settings for this camera, though no call refuses all of it. A lamp box should not run with a warning.
+            /// What looks wrong in settings for this card, though no call refuses all of it: a basic range that is not the one the card was loaded with, as
+            /// the other camera's settings have, or numbers that no camera should be read with. A lamp box should not run with a warning.
             pub fn settings_warning(&self, settings: &Settings) -> Option<&'static str> {
-                settings.warning_of(RANGES)
+                let other = settings.basic_range != self.basic_range;
+                settings.warning_of(RANGES).or(other.then_some("the basic range is not the one that the card was loaded with"))
             }
 
             /// The gradient coefficient, a ratio, if there is one.

@@ -84,10 +84,8 @@ pub trait Camera: Sized {
     /// Settings for this card and the camera's current resolution, 0 to 3.
     fn settings(&self, current_resolution: u8) -> Settings;
 
-    /// What looks wrong in settings for this camera.
-    fn settings_warning(&self, settings: &Settings) -> Option<&'static str> {
-        settings.warning_of(Self::RANGES)
-    }
+    /// What looks wrong in settings for this card.
+    fn settings_warning(&self, settings: &Settings) -> Option<&'static str>;
 
     /// What looks wrong between this card and the RAM of a frame.
     fn gain_warning(&self, ram: RamData) -> Option<&'static str>;

@@ -228,6 +228,20 @@ impl Calibration {
     /// # Errors
     ///
     /// [`Refusal::ShortFrame`] (10), [`Refusal::SupplyRange`] (7), [`Refusal::ZeroDivisor`] (8). Arrays of 1,536 bytes, 768 bools and 768 numbers can't meet 10.
+    ///
+    /// ```
+    /// use loamchalice::mlx90640::{subpage_mask, Calibration, Pattern};
+    /// use loamchalice::{RamData, Subpage};
+    /// let camera = Calibration::from_data(include_bytes!("../cards/bigger.bin"))?;
+    /// let ram = RamData { t_a_v_be: 19442, t_a_ptat: 1711, v_dd_pixel: -13115, gain: 6273, compensation_pixel: -54 };
+    /// let (settings, pattern, mask) = (camera.settings(2), Pattern::Chess, subpage_mask(Subpage::Zero, Pattern::Chess));
+    /// let mut picture = [f32::INFINITY; 768];
+    /// let frame = camera.raw_pixels_to_ir_data(&settings, ram, Subpage::Zero, pattern, &[0x02, 0x61].repeat(768), &mask, &mut picture)?;
+    /// assert_eq!((frame.written, picture[0].to_bits()), (384, 0x44278A4C)); // 670.2 counts
+    /// camera.raw_ir_to_temperatures(&settings, Subpage::Zero, frame.t_a, &mask, &mut picture)?;
+    /// assert_eq!(picture[0].to_bits(), 0x42BE11C0); // 95.03 degrees
+    /// # Ok::<(), loamchalice::Refusal>(())
+    /// ```
     #[allow(clippy::too_many_arguments)]
     pub fn raw_pixels_to_ir_data(
         &self,
@@ -302,6 +316,20 @@ impl Calibration {
     /// # Errors
     ///
     /// [`Refusal::ShortFrame`] (10), [`Refusal::BasicRange`] (6), [`Refusal::SupplyRange`] (7), [`Refusal::ZeroDivisor`] (8), [`Refusal::UnorderedCorners`] (12).
+    ///
+    /// ```
+    /// use loamchalice::mlx90640::{subpage_mask, Calibration, Pattern};
+    /// use loamchalice::{RamData, Subpage};
+    /// let camera = Calibration::from_data(include_bytes!("../cards/bigger.bin"))?;
+    /// let ram = RamData { t_a_v_be: 19442, t_a_ptat: 1711, v_dd_pixel: -13115, gain: 6273, compensation_pixel: -54 };
+    /// let (settings, pattern, mask) = (camera.settings(2), Pattern::Chess, subpage_mask(Subpage::One, Pattern::Chess));
+    /// let [mut basic, mut ranged] = [[f32::INFINITY; 768]; 2];
+    /// let hot = [0x17; 1536];
+    /// camera.raw_pixels_to_temperatures(&settings, ram, Subpage::One, pattern, &hot, &mask, &mut basic)?;
+    /// camera.raw_pixels_to_ranged_temperatures(&settings, ram, Subpage::One, pattern, &hot, &mask, &mut ranged)?;
+    /// assert!(basic[1] > 160.0 && ranged[1] > 160.0 && basic[1] != ranged[1]); // the basic range is 0 to 160
+    /// # Ok::<(), loamchalice::Refusal>(())
+    /// ```
     #[allow(clippy::too_many_arguments)]
     pub fn raw_pixels_to_ranged_temperatures(
         &self,
@@ -427,6 +455,10 @@ impl Camera for Calibration {
 
     fn settings(&self, current_resolution: u8) -> Settings {
         self.settings(current_resolution)
+    }
+
+    fn settings_warning(&self, settings: &Settings) -> Option<&'static str> {
+        self.settings_warning(settings)
     }
 
     fn gain_warning(&self, ram: RamData) -> Option<&'static str> {

@@ -377,6 +377,10 @@ impl Camera for Calibration {
         self.settings(current_resolution)
     }
 
+    fn settings_warning(&self, settings: &Settings) -> Option<&'static str> {
+        self.settings_warning(settings)
+    }
+
     fn gain_warning(&self, ram: RamData) -> Option<&'static str> {
         self.gain_warning(ram)
     }

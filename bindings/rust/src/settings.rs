@@ -3,7 +3,7 @@ use crate::mlx90641::{BASIC_RANGE, RANGES, SELF_HEATING};
 
 /// The caller's numbers. [`mlx90641::Calibration::settings`](crate::mlx90641::Calibration::settings) and
 /// [`mlx90640::Calibration::settings`](crate::mlx90640::Calibration::settings) make them from a card, as mlx9064x's driver does; the defaults are the
-/// MLX90641's, for a card of emissivity 1 that was written at the camera's current resolution.
+/// MLX90641's alone, for a card of emissivity 1 that was written at the camera's current resolution.
 #[derive(Clone, Copy, Debug, PartialEq)]
 pub struct Settings {
     /// Of the body that is looked at, above 0 and at most 1. The calls refuse 0 and NaN alone: 95 for 0.95, -1 or infinity give cold, good-looking
@@ -28,8 +28,8 @@ impl Default for Settings {
 }
 
 impl Settings {
-    /// What looks wrong in these numbers for the MLX90641, though no call refuses all of it. A lamp box should not run with a warning. For the MLX90640, which
-    /// has fewer ranges, ask [`mlx90640::Calibration::settings_warning`](crate::mlx90640::Calibration::settings_warning).
+    /// What looks wrong in these numbers for the MLX90641, though no call refuses all of it. A lamp box should not run with a warning. A
+    /// calibration's own `settings_warning` knows its camera, and the basic range that it was loaded with.
     ///
     /// ```
     /// use loamchalice::Settings;

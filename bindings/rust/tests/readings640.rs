@@ -395,18 +395,24 @@ fn the_second_pass_goes_by_range() {
 }
 
 #[test]
-fn settings_are_warned_of_by_the_cameras_ranges() {
-    let camera = Calibration::from_data(K).unwrap();
-    let usual = camera.settings(2);
-    assert_eq!(camera.settings_warning(&usual), None);
+fn settings_are_warned_of_by_camera_and_card() {
     let none = Some("the camera has no such basic range");
-    for (basic_range, told) in [(0, None), (3, None), (4, none), (7, none), (usize::MAX, none)] {
-        assert_eq!(camera.settings_warning(&Settings { basic_range, ..usual }), told);
+    let another = Some("the basic range is not the one that the card was loaded with");
+    for range in 0..RANGES {
+        let camera = Calibration::from_data_in(K, range).unwrap();
+        let usual = camera.settings(2);
+        assert_eq!(camera.settings_warning(&usual), None);
+        for basic_range in (0..9).chain([usize::MAX]).filter(|basic_range| *basic_range != range) {
+            let told = if basic_range < RANGES { another } else { none };
+            assert_eq!(camera.settings_warning(&Settings { basic_range, ..usual }), told);
+        }
+        assert!(camera.settings_warning(&Settings { emissivity: 95.0, ..usual }).is_some());
     }
-    assert!(camera.settings_warning(&Settings { emissivity: 95.0, ..usual }).is_some());
-    // The same numbers for the other camera.
+    // The other camera's settings are told of, either way.
+    let camera = Calibration::from_data(K).unwrap();
+    assert_eq!(camera.settings_warning(&Settings::default()), another);
     let other = loamchalice::Calibration::from_data(include_bytes!("../cards/sound.bin")).unwrap();
-    assert_eq!(other.settings_warning(&Settings { basic_range: 7, ..usual }), None);
-    assert_eq!(other.settings_warning(&Settings { basic_range: 8, ..usual }), none);
-    assert_eq!(Settings { basic_range: 8, ..usual }.warning(), none);
+    assert_eq!(other.settings_warning(&camera.settings(2)), another);
+    assert_eq!(other.settings_warning(&Settings { basic_range: 8, ..Settings::default() }), none);
+    assert_eq!(Settings { basic_range: 8, ..Settings::default() }.warning(), none);
 }
