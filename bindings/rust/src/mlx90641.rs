@@ -1,5 +1,5 @@
-//! The MLX90641, the camera of 16 by 12 pixels: its card, whose words are checked, and its frames. Each subpage covers all pixels. All of this stands at the
-//! crate's root too.
+//! The MLX90641, the camera of 16 by 12 pixels: its card, whose words are checked, and its frames. Each subpage covers all pixels. Its types and calls stand at
+//! the crate's root too.
 use crate::accessors::accessors;
 use crate::border::{self, Answer, Record};
 use crate::frame::{as_bits, as_bytes, average};
