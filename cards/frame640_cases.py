@@ -72,13 +72,7 @@ def lent(short=0, pixel_bytes=1536, mask_length=768, entries=768):
 def runs(calls, which, name, camera, t_a=T_A, filtered=None, **changes):
     """What each call answers."""
     frame = dict(USUAL, **changes)
-    answers = []
-    for call in which:
-        if call == "temperatures":
-            calls.temperatures(name, camera, frame, t_a)
-        else:
-            answers.append(calls.call(call, name, camera, frame, filtered))
-    return answers
+    return [calls.temperatures(name, camera, frame, t_a) if call == "temperatures" else calls.call(call, name, camera, frame, filtered) for call in which]
 
 
 def both_ways(calls, name, camera, filtered=None, **changes):
@@ -150,10 +144,9 @@ def signs_of_zero(calls, camera):
 
 
 def supply(calls, camera):
-    for pixel, number_ in ((24543, 0), (24544, 7)):
-        for answered in runs(calls, BOTH, "V_DD pixel %d" % pixel, camera, v_dd_pixel=pixel):
-            assert answered[0] == (number_, 0, 0)
-    runs(calls, ["temperatures"], "V_DD pixel 24544, which is not looked at", camera, v_dd_pixel=24544)
+    told_of(calls, BOTH, "V_DD pixel 24543", camera, 0, v_dd_pixel=24543)
+    told_of(calls, BOTH, "V_DD pixel 24544", camera, 7, v_dd_pixel=24544)
+    told_of(calls, ["temperatures"], "V_DD pixel 24544, which is not looked at", camera, 0, v_dd_pixel=24544)
 
 
 # ---- Refusals
@@ -165,60 +158,62 @@ def told_of(calls, which, name, camera, number_, place=0, **changes):
 
 
 def lengths(calls, camera):
-    takes = (("offsets", BOTH), ("alpha", ONWARD[:2]), ("K_Ta", BOTH))
-    for short, (name, which) in enumerate(takes, 1):
+    for short, (name, which) in enumerate((("offsets", BOTH), ("alpha", ONWARD), ("K_Ta", BOTH)), 1):
         told_of(calls, which, "767 entries of " + name, camera, 2, lengths=lent(short))
-    runs(calls, ["infrared"], "767 entries of alpha, which infrared does not take", camera, lengths=lent(2))
-    runs(calls, ["temperatures"], "767 entries of alpha", camera, lengths=lent(2))
-    runs(calls, ["temperatures"], "of offsets, K_Ta and pixels nothing", camera, lengths=(0, 768, 0, 0, 768, 768))
+    told_of(calls, ["infrared"], "767 entries of alpha, which infrared does not take", camera, 0, lengths=lent(2))
+    told_of(calls, ["temperatures"], "of offsets, K_Ta and pixels nothing", camera, 0, lengths=(0, 768, 0, 0, 768, 768))
     told_of(calls, BOTH, "1535 pixel bytes", camera, 10, 1535, lengths=lent(pixel_bytes=1535))
-    told_of(calls, BOTH, "mask of 767 bytes", camera, 10, 767, lengths=lent(mask_length=767))
-    told_of(calls, BOTH, "destination of 767", camera, 10, 767, lengths=lent(entries=767))
-    runs(calls, ["temperatures"], "mask of 767 bytes", camera, lengths=lent(mask_length=767))
-    runs(calls, ["temperatures"], "destination of 767", camera, lengths=lent(entries=767))
+    told_of(calls, ALL, "mask of 767 bytes", camera, 10, 767, lengths=lent(mask_length=767))
+    told_of(calls, ALL, "destination of 767", camera, 10, 767, lengths=lent(entries=767))
     told_of(calls, BOTH, "1534 pixel bytes, destination of 766, mask of 765", camera, 10, 1534, lengths=lent(0, 1534, 765, 766))
-    runs(calls, ["temperatures"], "1534 pixel bytes, destination of 766, mask of 765", camera, lengths=lent(0, 1534, 765, 766))
+    told_of(calls, ["temperatures"], "destination of 766, mask of 765", camera, 10, 766, lengths=lent(0, 1534, 765, 766))
     told_of(calls, ["one pass"], "everything of no length", camera, 2, lengths=(0,) * 6)
-    runs(calls, ALL, "everything longer", camera, lengths=(769, 770, 776, 1537, 775, 776))
+    told_of(calls, ALL, "everything longer", camera, 0, lengths=(769, 770, 776, 1537, 775, 776))
 
 
 def ranges_and_divisors(calls, camera):
-    for k in (0, 2, 3):
-        runs(calls, ["one pass", "temperatures"], "range %d" % k, camera, range=k)
-    for k in (4, 2**64 - 1):
-        told_of(calls, ONWARD[:2], "range %d" % k, camera, 6, k, range=k)
-        runs(calls, ["temperatures"], "range %d" % k, camera, range=k)
+    told_of(calls, ONWARD, "range 4", camera, 6, 4, range=4)
+    told_of(calls, ["one pass"], "range 2^64 - 1", camera, 6, 2**64 - 1, range=2**64 - 1)
     told_of(calls, ["infrared"], "range 4, of which infrared makes nothing", camera, 0, range=4)
-    told_of(calls, BOTH, "emissivity 0", camera, 8, emissivity=0)
-    runs(calls, ["temperatures"], "emissivity 0", camera, emissivity=0)
+    told_of(calls, ALL, "emissivity 0", camera, 8, emissivity=0)
     told_of(calls, ["one pass"], "emissivity not a number", camera, 8, emissivity=0xFFC00001)
     told_of(calls, BOTH, "RAM gain 0", camera, 8, gain=0)
+    told_of(calls, ["temperatures"], "RAM gain 0, which is not looked at", camera, 0, gain=0)
     told_of(calls, ["infrared"], "PTAT denominator 0", camera, 8, v_be=-9 * 1711)
 
 
-# Wrong are a short table, a destination of 767, range 4, V_DD pixel 24544 and emissivity 0; the last column is what each call says, infrared first
+def correction(calls, camera):
+    told_of(calls, ["infrared"], "correction 0", camera, 8, v_dd_pixel=-12288)
+    told_of(calls, ["infrared"], "correction not 0", camera, 0, v_dd_pixel=-12287)
+
+
+# Wrong are a short table, a destination of 767, range 4, V_DD pixel 24544 and emissivity 0; the last column is what each of ALL says
 PAIRS = (
-    ("2 and 10", 3, 767, 1, 24543, 1, (2, 2, 2)),
-    ("10 and 6", 0, 767, 4, 24543, 1, (10, 10, 10)),
-    ("6 and 7", 0, 768, 4, 24544, 1, (7, 6, 6)),
-    ("7 and 8", 0, 768, 1, 24544, 0, (7, 7, 7)),
-    ("6 and 8", 0, 768, 4, 24543, 0, (8, 6, 6)),
-    ("2, 10, 6, 7 and 8", 1, 767, 4, 24544, 0, (2, 2, 2)),
+    ("2 and 10", 3, 767, 1, 24543, 1, (2, 2, 2, 10)),
+    ("2 of alpha and 10", 2, 767, 1, 24543, 1, (10, 2, 2, 2)),
+    ("10 and 6", 0, 767, 4, 24543, 1, (10, 10, 10, 10)),
+    ("6 and 7", 0, 768, 4, 24544, 1, (7, 6, 6, 6)),
+    ("7 and 8", 0, 768, 1, 24544, 0, (7, 7, 7, 8)),
+    ("6 and 8", 0, 768, 4, 24543, 0, (8, 6, 6, 6)),
+    ("2, 10, 6, 7 and 8", 1, 767, 4, 24544, 0, (2, 2, 2, 10)),
+    ("8", 0, 768, 1, 24543, 0, (8, 8, 8, 8)),
+    ("no other", 0, 768, 1, 24543, 1, (0, 0, 12, 0)),
 )
+# Of these the filtered forms too
+FILTERED_TOO = "6 and 7", "8", "no other"
 
 
 def pairs(calls, camera):
     """Two refusals at once: the one that is tested first is told. The corners of this card don't rise."""
-    grounds = [(name, dict(lengths=lent(short, entries=entries), range=k, v_dd_pixel=pixel, emissivity=real(e)), wanted)
-               for name, short, entries, k, pixel, e, wanted in PAIRS]
-    grounds += [("8", dict(v_dd_pixel=24543, emissivity=0), (8, 8, 8)), ("no other", dict(v_dd_pixel=24543), (0, 0, 12))]
-    for name, changes, wanted in grounds:
-        name = "grounds for refusals: %s, and 12" % name
-        plain = runs(calls, ALL, name, camera, **changes)
-        filtered = runs(calls, BOTH, name + ", average", camera, filtered=(AVERAGE, real(-54.0625)), **changes)
-        for answers in (plain, filtered):
-            assert tuple(answered[0][0] for answered in answers) == wanted, name
-        assert wanted[2] != 12 or plain[2][0] == filtered[2][0] == (12, 2, 0)
+    for ground, short, entries, k, pixel, e, wanted in PAIRS:
+        name = "grounds for refusals: %s, and 12" % ground
+        changes = dict(lengths=lent(short, entries=entries), range=k, v_dd_pixel=pixel, emissivity=real(e))
+        answers = runs(calls, ALL, name, camera, **changes)
+        if ground in FILTERED_TOO:
+            answers += runs(calls, BOTH, name + ", average", camera, filtered=(AVERAGE, real(-54.0625)), **changes)
+        numbers = tuple(answered[0][0] for answered in answers)
+        assert numbers in (wanted, wanted + wanted[:3]), (name, numbers)
+        assert all(answered[0][1] == 2 for answered in answers if answered[0][0] == 12)
 
 
 def unrisen(corner):
@@ -313,6 +308,8 @@ def scenes(calls, camera):
     assert {model.range_of(record["corners"], t) for t in asked} == {0, 1, 2, 3}
     runs(calls, ["second pass"], "own card, temperatures in each range", camera, **changes)
     runs(calls, BOTH, "own card, average not a number", camera, filtered=(AVERAGE, 0x7FC00000), **changes)
+    for k in (0, 2, 3):
+        runs(calls, ONWARD, "own card, range %d" % k, camera, range=k)
 
 
 # ---- Any numbers
@@ -333,6 +330,7 @@ def cases(out):
         ("zero but words 48, 50 and 51", words((48, 0xFFFF), (50, 1), (51, 0x0100)), [signs_of_zero]),
         ("card K, word 51 0x01FF", card_k((51, 0x01FF)), [supply]),
         ("card K, word 51 0x01FF, step 0", card_k((51, 0x01FF), (63, 0x4889)), [pairs]),
+        ("zero but words 48, 50 and 51, correction 0", words((48, 1), (50, 0x8001), (51, 0x0100)), [correction]),
         ("card K, steps of corner 2 0", card_k((63, 0x2809)), [unrisen(2)]),
         ("card K, steps of corner 3 0", card_k((63, 0x2089)), [unrisen(3)]),
         ("card K with rows, columns and rests", own_card(), [scenes]),
@@ -345,4 +343,6 @@ def cases(out):
     calls = BiggerCalls()
     four_ranges(calls)
     odd_numbers(calls)
+    wiped = card640.load(bytes(1664))
+    told_of(calls, ["infrared"], "a wiped card", (wiped.record, wiped.tables), 8, v_dd_pixel=0)
     calls.write(out)

@@ -129,6 +129,7 @@ class Calls:
         frame_before = frame if destination is None else dict(frame, destination=destination)
         answer = model.answer("temperatures", camera, frame_before, t_a=t_a, differs=self.differs)
         self.put(self.from_infrared, name, camera, frame, given, answer)
+        return answer
 
     def write(self, out):
         for camera, (name, frames) in self.cameras.items():

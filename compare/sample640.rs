@@ -282,6 +282,16 @@ fn corners(s: &mut Stream, n: &mut Numbers) {
     corner(s, n, &image, "divisors, gain 0", PIXELS, |f| f.ram.gain = 0);
 }
 
+// The paper's card on which access terms of -0 show: in interleave, where they are added as they stand.
+fn signs_of_zero(s: &mut Stream, n: &mut Numbers) {
+    let image = cards640::image_of(&cards640::zero_but(&[(48, 0xFFFF), (50, 1), (51, 0x0100)]));
+    stands(s, "signs of zero", &image, true);
+    let ram = Ram { t_a_v_be: 1, t_a_ptat: 0, v_dd_pixel: -16384, gain: 1, compensation_pixel: 0 };
+    let f = Frame { ram, emissivity: 1.0, pixels: vec![0; 2 * PIXELS], ..room(n, &image, 0, false) };
+    let before = destination(n);
+    frame(s, "signs of zero, interleave subpage 0", &f, &before, false);
+}
+
 pub fn cases(s: &mut Stream) {
     let mut n = Numbers::new(90640);
     masks(s);
@@ -297,4 +307,5 @@ pub fn cases(s: &mut Stream) {
     let words = cards640::mild(&mut n);
     on_card(s, &mut n, "mild scales", &words, false);
     corners(s, &mut n);
+    signs_of_zero(s, &mut n);
 }
