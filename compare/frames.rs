@@ -442,19 +442,31 @@ fn ranged(tally: &mut Tally, n: &mut Numbers, label: &str, f: &Frame, before: &[
 
 /// What document.rs says of the second pass.
 pub fn by_ranges(tally: &mut Tally, f: &Frame, before: &[u32]) -> Said {
-    let (t_a, v) = of_call(before, |destination| published::raw_pixels_to_ir_data(f, destination))?;
+    let infrared = of_call(before, |destination| published::raw_pixels_to_ir_data(f, destination))?;
     let (_, basic) = of_call(before, |destination| rooted::raw_pixels_to_temperatures(f, destination))?;
+    Some(from_basic(tally, &document::seen(f), &f.tables.alpha, &f.mask, before, infrared, &basic))
+}
+
+/// From t_a, infrared numbers and basic temperatures, for either camera.
+pub fn from_basic(
+    tally: &mut Tally,
+    seen: &document::Seen,
+    alpha: &[f32],
+    mask: &[u8],
+    before: &[u32],
+    (t_a, v): (f32, Vec<f32>),
+    basic: &[f32],
+) -> (f32, Vec<f32>) {
     let mut wanted = floats(before);
-    for i in (0..wanted.len().min(192)).filter(|i| f.mask.get(*i).is_some_and(|byte| *byte != 0)) {
-        let alpha = f.tables.alpha.get(i).copied().unwrap_or(f32::NAN);
-        wanted[i] = document::ranged_temperature(f, HEATS[f.heat], t_a, alpha, v[i], basic[i]);
-        let range = (1..8).rev().find(|k| f32::from(f.record.corner_temperatures[*k]) <= basic[i]).unwrap_or(0);
-        tally.count(&format!("second pass, pixels of range {range}"));
+    for i in (0..wanted.len().min(seen.pixels)).filter(|i| mask.get(*i).is_some_and(|byte| *byte != 0)) {
+        let alpha = alpha.get(i).copied().unwrap_or(f32::NAN);
+        wanted[i] = seen.ranged_temperature(t_a, alpha, v[i], basic[i]);
+        tally.count(&format!("second pass, pixels of range {}", seen.range_of(basic[i])));
         if (300.0..400.0).contains(&basic[i]) {
             tally.count("second pass, pixels of 300 to 400 degrees");
         }
     }
-    Some((t_a, wanted))
+    (t_a, wanted)
 }
 
 /// A whole average is another reading, which the crate can judge; not yet is the frame's own.
