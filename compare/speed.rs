@@ -225,7 +225,7 @@ fn in_pieces(kept: &mut [u8; 1664], tables: &mut Tables) -> library::Load {
     for piece in IMAGE.chunks(64) {
         let [zero, one] = &mut tables.offsets;
         let (alpha, k_v, k_ta) = (&mut tables.alpha, &mut tables.k_v, &mut tables.k_ta);
-        reader = border::reader_take(kept, reader, black_box(piece), library::BASIC, [zero, one], alpha, k_v, k_ta).reader;
+        reader = border::reader_take(kept, reader, black_box(piece), library::BASIC, zero, one, alpha, k_v, k_ta).reader;
     }
     reader.answer
 }
