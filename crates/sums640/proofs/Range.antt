@@ -1,4 +1,4 @@
--- How large the parts of a pixel's offset and their sums are: whatever the card says, they fit 32 bits. Assumes nothing.
+-- How large a pixel's whole numbers and their parts are, by averages and scales; and so, whatever the card says, they fit 32 bits. Assumes nothing.
 use Prim.Native.Nat.{ℕ, zero, suc, _+_, _-_, _*_, _/_, _%_, _^_, _<_, _≤_}
 use native.Mathlib.Nat.{le-trans, mul-pos, mul-le-mul-left, mul-le-mul-right, mul-lt-mul-of-pos-right, mod-lt}
 use native.Mathlib.Omega.{arith}
@@ -28,7 +28,7 @@ times : (z : ℤ) (m p : ℕ) → mag z < m → 0 < p → mag (z *ℤ pos p) < m
 times (pos n) m p h l = mul-lt-mul-of-pos-right h l
 times (negsuc n) m p h l = minus (suc n * p) (m * p) (mul-le-mul-right p h) (mul-pos (omega arith) l)
 
-pub plus : (p q : ℕ) (a b : ℤ) → mag a < p → mag b < q → mag (a +ℤ b) < p + q
+plus : (p q : ℕ) (a b : ℤ) → mag a < p → mag b < q → mag (a +ℤ b) < p + q
 plus p q a b h k = let s = sum-mag (p - 1) (q - 1) (p + q - 1) a b (omega arith) (omega arith) (omega arith) in omega arith
 
 pub signed-mag : (width n : ℕ) → 1 ≤ width → width ≤ 6 → mag (signed width n) < 32
@@ -86,17 +86,18 @@ module _ (w : ℕ → ℕ) where
     pub column-mag : (k : ℕ) → mag (columnAt w part k) ≤ 262144
     column-mag k = omega (arith, column-within k, power-most (columnScale scales) (small (scales / 16)))
 
+    base-most : baseBound scales average ≤ 557056
+    base-most = omega (arith, average-mag average, power-most (rowScale scales) (small (scales / 256)), power-most (columnScale scales) (small (scales / 16)))
+
     pub base-mag : (pixel : ℕ) → mag (baseAt w part pixel) ≤ 557057
-    base-mag pixel = omega (arith, base-within pixel, average-mag average, power-most (rowScale scales) (small (scales / 256)), power-most (columnScale scales) (small (scales / 16)))
+    base-mag pixel = omega (arith, base-within pixel, base-most)
 
   pub offset-within : (pixel : ℕ) → mag (offsetAt w pixel) < baseBound (w 16) (w 17) + 32 * 2 ^ restScale (w 16)
   unfolding offsetAt
   offset-within pixel = plus (baseBound (w 16) (w 17)) (32 * 2 ^ restScale (w 16)) (baseAt w offsetPart pixel) (scaled 6 (pixelWord w pixel / 1024) (restScale (w 16))) (base-within offsetPart pixel) (scaled-within 6 _ _ (lit≤ tt))
 
   pub offset-mag : (pixel : ℕ) → mag (offsetAt w pixel) ≤ 1605634
-  unfolding offsetAt
-  offset-mag pixel =
-      sum-mag 557057 1048576 1605634 (baseAt w offsetPart pixel) (scaled 6 (pixelWord w pixel / 1024) (restScale (scalesOf w offsetPart))) (omega arith) (base-mag offsetPart pixel) (scaled-mag 6 _ _ (lit≤ tt) (lit≤ tt) (small (scalesOf w offsetPart)))
+  offset-mag pixel = omega (arith, offset-within pixel, base-most offsetPart, power-most (restScale (w 16)) (small (w 16)))
 
   pub k-ta-average-mag : (entry : ℕ) → mag (averageAt w entry) < 128
   unfolding averageAt
