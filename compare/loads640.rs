@@ -334,12 +334,31 @@ fn edges(n: &mut Numbers) -> Words {
     w
 }
 
+// Averages and scales that bound a number by 32767, 32768 or 32769, so that a load may or may not do without its search; rows and columns are at their ends,
+// and so are some pixels' rests.
+fn bounds(n: &mut Numbers) -> Words {
+    let (low, first) = (n.one_in(2), n.pick(&[16, 32]));
+    let (rows, columns, rest) = (n.below(11), n.below(11), n.below(9));
+    let rests = if first == 16 { 32 << rest } else { 0 };
+    let average = (n.between(32766, 32768) - (8 << rows) - (8 << columns) - rests) as u16;
+    let mut w = zero_but(&[(first, (rows << 8 | columns << 4 | rest) as u16), (first + 1, if low { !average } else { average })]);
+    w[first + 2..first + 16].fill(if low { 0x8888 } else { 0x7777 });
+    w[32] = w[32] & 0xFFF0 | n.pick(&[0, 9, 10, 11]);
+    w[56] = n.pick(&[0, 11, 12, 13]);
+    w[54..56].fill(n.pick(&[0, 0x8080, 0x7F7F]));
+    for _ in 0..n.below(4) {
+        w[64 + n.below(PIXELS)] = if low { 0x8208 } else { 0x7DF6 } & n.pick(&[0xFC00, 0x03F0, 0x000E, 0xFFFF]);
+    }
+    w
+}
+
 fn made(n: &mut Numbers) -> (&'static str, Words) {
-    match n.below(8) {
+    match n.below(9) {
         0 => ("random bytes", cards640::anything(n)),
         1 | 2 => ("mild scales", cards640::mild(n)),
         3 => ("sparse", cards640::sparse(n)),
         4 | 5 => ("edges of i16", edges(n)),
+        6 => ("bounds about 32768", bounds(n)),
         _ => ("realistic", cards640::realistic(n)),
     }
 }

@@ -274,13 +274,22 @@ fn time_cards() {
     }
 }
 
-/// Realistic cards of the MLX90640, and what a refusal costs where the crate goes on: a blank card, and one whose last pixel alone is too large.
+/// Realistic cards of the MLX90640, some whose pixels must be searched for 5 since rows might be too large, and what a refusal costs where the crate goes on: a
+/// blank card, and one whose last pixel alone is too large.
 fn time_cards_640() {
     let mut n = numbers::Numbers::new(1);
     let realistic: Vec<Vec<u8>> = (0..16).map(|_| cards640::image_of(&cards640::realistic(&mut n))).collect();
+    let searched = (0..16).map(|_| {
+        let mut w = cards640::realistic(&mut n);
+        w[16] = 0x4C10;
+        w[18..24].iter_mut().for_each(|word| *word &= 0x3333);
+        cards640::image_of(&w)
+    });
+    let searched: Vec<Vec<u8>> = searched.collect();
     let last = cards640::image_of(&cards640::zero_but(&[(17, 0x7FFF), (831, 0x0400)]));
     let kinds = [
         ("load, a card of the MLX90640", realistic, 0),
+        ("load, a card of the MLX90640 that is searched", searched, 0),
         ("load, a blank card of the MLX90640", vec![vec![0xFF; 1664]], 5),
         ("load, a card of the MLX90640 whose last pixel is too large", vec![last], 5),
     ];
@@ -294,7 +303,7 @@ fn time_cards_640() {
             assert!(*number != 0 || ours == cards640::tables(&c), "the same tables");
         }
     }
-    let mut least = [[f64::MAX; 3]; 3];
+    let mut least = [[f64::MAX; 3]; 4];
     for _ in 0..ROUNDS {
         for ((_, images, _), load) in kinds.iter().zip(&mut least) {
             let n = images.len();

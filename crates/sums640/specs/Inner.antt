@@ -1,10 +1,11 @@
--- For inner functions only: what rows, columns and the chessboard give to many pixels, worked out once for a card: 24 rows and 32 columns of the
+-- For inner functions only. What rows, columns and the chessboard give to many pixels, worked out once for a card: 24 rows and 32 columns of the
 -- offsets, the same of alpha, and four averages of K_Ta. Rows and columns are read from the word of scales on. Assumes nothing.
 use Prim.Native.Nat.{ℕ, _+_, _-_, _*_, _/_, _%_, _^_}
 use mathlib.Core.Path.{_≡_}
 use mathlib.Core.List.{List}
 use lib.Dec.{ltb}
 use lib.IntN.{ℤ, pos, _+ℤ_}
+use lib.Signed.{mag}
 use Rattle.lists.specs.Each.{Each}
 use Rattle.lists.specs.Pick.{pick}
 use Rattle.util.specs.Fields.{signed}
@@ -37,3 +38,8 @@ sharedAt w k = pick (ltb k 56) (partFrom w 16 k) (pick (ltb k 112) (partFrom w 3
 -- a list that has them
 abbrev pub Shared : (ℕ → ℕ) → List ℤ → Type 0
 Shared w list = Each (λ k z. z ≡ sharedAt w k) (pos 0) list sharedCount
+
+-- A bound of average + row + column, by the average's word and the word of scales: `mag` is below it whatever rows and columns say, since four bits
+-- are from -8 to 7.
+abbrev pub baseBound : ℕ → ℕ → ℕ
+baseBound scales average = mag (signed 16 average) + 1 + 8 * 2 ^ rowScale scales + 8 * 2 ^ columnScale scales

@@ -1,6 +1,7 @@
 // The whole numbers of the MLX90640's pixels: sums of signed fields times powers of two, exactly, and the first pixel with one outside i16.
 ghost use mathlib.Core.Path.{_≡_};
 ghost use Prim.Native.Nat.{_+_, _*_, _/_, _%_, _^_, _<_, _≤_};
+ghost use mathlib.Core.Bool.{true};
 ghost use lib.IntN.{_+ℤ_, pos};
 ghost use lib.ListN.{length, getD};
 ghost use lib.Signed.{mag};
@@ -9,7 +10,7 @@ ghost use Rattle.lists.specs.Written.{filled};
 ghost use Rattle.util.specs.Words.{wordAt};
 ghost use Rattle.util.specs.Fields.{signed};
 ghost use Rattle.sums640.specs.Sums.{pixelCount, scaled, averageBytes, averageAt, offsetAt, alphaRestAt, kTaSumAt, alphaAt, kTaAt, outsideAt, firstOutside};
-ghost use Rattle.sums640.specs.Inner.{nibbleAt, rowFrom, columnFrom, sharedCount, sharedWord, sharedAt, Shared};
+ghost use Rattle.sums640.specs.Inner.{baseBound, nibbleAt, rowFrom, columnFrom, sharedCount, sharedWord, sharedAt, Shared};
 use map640::Field;
 
 pub const PIXELS: usize = 768;
@@ -210,11 +211,61 @@ fn outside_at(image: &[u8], shared: &[i32], pixel: usize) -> bool
     !util::fits_i16(k_ta_sum_at(image, shared, pixel))
 }
 
+// 2^scale.
+fn power(scale: u16) -> u32
+    requires { ⌜ scale < 16 ⌝ }
+    ensures { λ r. ⌜ (r ≡ 2 ^ scale) × (r ≤ 32768) ⌝ }
+{
+    1u32 << scale
+}
+
+// The least bound of an average. A number within a bound b is from -b to b - 1.
+fn average_bound(average: u16) -> u32
+    ensures { λ r. ⌜ (r ≡ mag (signed 16 average) + 1) × (r ≤ 32768) ⌝ }
+{
+    let bits = util::wide(average);
+    if bits < 32768 { bits + 1 } else { 65536 - bits }
+}
+
+// A bound of average + row + column, whatever rows and columns say.
+fn base_bound(scales: u16, average: u16) -> u32
+    ensures { λ r. ⌜ (r ≡ baseBound scales average) × (r ≤ 557056) ⌝ }
+{
+    let rows = power(scales / 256 % 16);
+    let columns = power(scales / 16 % 16);
+    average_bound(average) + 8 * rows + 8 * columns
+}
+
+// Whether averages and scales alone keep every pixel inside i16, so that no search is needed. False says nothing.
+fn mild(image: &[u8]) -> bool
+    requires { ⌜ 1664 ≤ length (now image) ⌝ }
+    ensures { λ r. ⌜ (r ≡ true → firstOutside (wordAt (now (image .entry))) ≡ pixelCount) ⌝ }
+{
+    let offset_scales = util::word_at(image, map640::OFFSET_SCALES);
+    let offset_average = util::word_at(image, map640::OFFSET_SCALES + 1);
+    let alpha_scales = util::word_at(image, map640::ALPHA_SCALES);
+    let alpha_average = util::word_at(image, map640::ALPHA_SCALES + 1);
+    let scales = util::word_at(image, map640::SCALES);
+    if base_bound(offset_scales, offset_average) + 32 * power(offset_scales % 16) > 32768 {
+        return false;
+    }
+    if base_bound(alpha_scales, alpha_average) > 32768 {
+        return false;
+    }
+    if 32 * power(alpha_scales % 16) > 32768 {
+        return false;
+    }
+    128 + 4 * power(scales % 16) <= 32768
+}
+
 // The first pixel with one of its four whole numbers outside i16, or 768.
 pub fn first_outside(image: &[u8], shared: &[i32]) -> usize
     requires { ⌜ (1664 ≤ length (now image)) × (sharedCount ≤ length (now shared)) × Shared (wordAt (now image)) (now shared) ⌝ }
     ensures { λ r. ⌜ r ≡ firstOutside (wordAt (now (image .entry))) ⌝ }
 {
+    if mild(image) {
+        return PIXELS;
+    }
     for pixel in 0..PIXELS {
         if outside_at(image, shared, pixel) {
             return pixel;
