@@ -14677,7 +14677,7 @@ loamchalice_mlx90640_load:
 	str	q0, [sp, #32]
 	b.hs	.Lload640_BB0_2
 	mov	w14, #1
-	b	.Lload640_BB0_29
+	b	.Lload640_BB0_34
 .Lload640_BB0_2:
 	ldr	x9, [sp, #640]
 	cmp	x6, x9
@@ -14688,7 +14688,7 @@ loamchalice_mlx90640_load:
 	b.hs	.Lload640_BB0_4
 	mov	x1, xzr
 	mov	w14, #2
-	b	.Lload640_BB0_29
+	b	.Lload640_BB0_34
 .Lload640_BB0_4:
 	mov	x9, xzr
 	sub	x10, x0, #4
@@ -14811,86 +14811,132 @@ loamchalice_mlx90640_load:
 	lsl	w13, w15, w14
 	b	.Lload640_BB0_6
 .Lload640_BB0_16:
-	ldrb	w13, [x0, #33]
-	mov	x10, xzr
+	mov	x9, x0
+	ldrb	w10, [x9, #113]!
+	ldurb	w13, [x9, #-80]
+	ldurb	w11, [x9, #-81]
+	ldurb	w15, [x9, #-79]
+	ldurb	w16, [x9, #-78]
+	lsr	w14, w13, #4
+	and	w12, w11, #0xf
+	mov	w11, #1
+	bfi	w16, w15, #8, #8
+	lsl	w17, w11, w12
+	lsl	w18, w11, w14
+	and	w12, w13, #0xf
+	mov	w14, #32
+	lsl	w1, w14, w12
+	mov	w12, #65536
+	mov	w14, #32768
+	add	w17, w18, w17
+	sub	w18, w12, w16
+	tst	w14, w15, lsl #8
+	add	w15, w1, w17, lsl #3
+	csinc	w16, w18, w16, ne
+	add	w15, w15, w16
+	cmp	w15, #8, lsl #12
+	b.ls	.Lload640_BB0_26
+	and	w10, w10, #0xf
+.Lload640_BB0_18:
 	mov	x11, xzr
+	mov	x12, xzr
 	mov	x1, xzr
-	add	x9, x0, #113
-	mov	w12, #-64
 	and	w13, w13, #0xf
-	add	x14, sp, #32
-	mov	w15, #4
-	mov	w16, #-8
-.Lload640_BB0_17:
-	add	x17, x0, x10
-	and	x6, x11, #0x7c
-	ldrb	w17, [x17, #128]
-	sxtb	w18, w17
-	cmn	w18, #1
-	lsr	x18, x1, #3
-	csel	w4, wzr, w12, gt
-	orr	w4, w4, w17, lsr #2
-	and	x19, x18, #0x7c
-	add	x18, x14, x6
-	ldr	w6, [x14, x19]
-	ldr	w19, [x18, #96]
-	lsl	w4, w4, w13
-	add	w6, w6, w19
+	mov	w14, #-64
+	add	x15, sp, #32
+	mov	w16, #4
+	mov	w17, #-8
+.Lload640_BB0_19:
+	add	x18, x0, x11
+	and	x19, x12, #0x7c
+	ldrb	w18, [x18, #128]
+	sxtb	w4, w18
+	cmn	w4, #1
+	lsr	x4, x1, #3
+	csel	w6, wzr, w14, gt
+	orr	w6, w6, w18, lsr #2
+	and	x20, x4, #0x7c
+	add	x4, x15, x19
+	ldr	w19, [x15, x20]
+	ldr	w20, [x4, #96]
+	lsl	w6, w6, w13
+	add	w19, w19, w20
+	add	w6, w19, w6
+	add	w6, w6, #8, lsl #12
+	lsr	w6, w6, #16
+	cbnz	w6, .Lload640_BB0_24
+	lsr	x6, x1, #5
+	ldr	w4, [x4, #320]
+	add	x6, x15, x6, lsl #2
+	ldr	w6, [x6, #224]
 	add	w4, w6, w4
 	add	w4, w4, #8, lsl #12
 	lsr	w4, w4, #16
-	cbnz	w4, .Lload640_BB0_22
-	lsr	x4, x1, #5
-	ldr	w18, [x18, #320]
-	add	x4, x14, x4, lsl #2
-	ldr	w4, [x4, #224]
+	cbnz	w4, .Lload640_BB0_24
+	add	x4, x0, x11
+	ldrb	w19, [x0, #65]
+	ldrb	w4, [x4, #129]
+	and	w19, w19, #0xf
+	orr	w6, w4, w18, lsl #8
+	lsl	w18, w18, #5
+	ubfx	w6, w6, #4, #6
+	and	w18, w18, #0x40
+	sub	w18, w6, w18
+	lsl	w18, w18, w19
+	cmp	w18, w18, sxth
+	b.ne	.Lload640_BB0_24
+	and	x18, x11, #0x2
+	tst	w16, w4, lsr #1
+	bfxil	x18, x1, #5, #1
+	csel	w6, wzr, w17, eq
+	bfxil	w6, w4, #1, #3
+	orr	x18, x15, x18, lsl #2
+	lsl	w4, w6, w10
+	ldr	w18, [x18, #448]
 	add	w18, w4, w18
-	add	w18, w18, #8, lsl #12
-	lsr	w18, w18, #16
-	cbnz	w18, .Lload640_BB0_22
-	add	x18, x0, x10
-	ldrb	w6, [x0, #65]
-	ldrb	w18, [x18, #129]
-	and	w6, w6, #0xf
-	orr	w4, w18, w17, lsl #8
-	lsl	w17, w17, #5
-	ubfx	w4, w4, #4, #6
-	and	w17, w17, #0x40
-	sub	w17, w4, w17
-	lsl	w17, w17, w6
-	cmp	w17, w17, sxth
-	b.ne	.Lload640_BB0_22
-	and	x17, x10, #0x2
-	tst	w15, w18, lsr #1
-	ldrb	w4, [x9]
-	bfxil	x17, x1, #5, #1
-	csel	w6, wzr, w16, eq
-	bfxil	w6, w18, #1, #3
-	and	w18, w4, #0xf
-	orr	x17, x14, x17, lsl #2
-	lsl	w18, w6, w18
-	ldr	w17, [x17, #448]
-	add	w17, w17, w18
-	cmp	w17, w17, sxth
-	b.ne	.Lload640_BB0_22
+	cmp	w18, w18, sxth
+	b.ne	.Lload640_BB0_24
 	add	x1, x1, #1
-	add	x11, x11, #4
-	add	x10, x10, #2
+	add	x12, x12, #4
+	add	x11, x11, #2
 	cmp	x1, #768
-	b.ne	.Lload640_BB0_17
-	b	.Lload640_BB0_24
-.Lload640_BB0_22:
-	cmp	x1, #768
-	b.hs	.Lload640_BB0_24
-	mov	w14, #5
+	b.ne	.Lload640_BB0_19
 	b	.Lload640_BB0_29
 .Lload640_BB0_24:
+	cmp	x1, #768
+	b.hs	.Lload640_BB0_29
+	mov	w14, #5
+	b	.Lload640_BB0_34
+.Lload640_BB0_26:
+	ldrb	w15, [x0, #65]
+	ldrb	w16, [x0, #64]
+	and	w10, w10, #0xf
+	ldrb	w17, [x0, #66]
+	ldrb	w18, [x0, #67]
+	lsr	w1, w15, #4
+	and	w16, w16, #0xf
+	bfi	w18, w17, #8, #8
+	lsl	w16, w11, w16
+	tst	w14, w17, lsl #8
+	lsl	w11, w11, w1
+	sub	w12, w12, w18
+	csinc	w12, w12, w18, ne
+	add	w11, w16, w11
+	add	w11, w12, w11, lsl #3
+	cmp	w11, #8, lsl #12
+	b.hi	.Lload640_BB0_18
+	and	w11, w15, #0xf
+	cmp	w11, #10
+	b.hi	.Lload640_BB0_18
+	cmp	w10, #13
+	b.hs	.Lload640_BB0_18
+.Lload640_BB0_29:
 	subs	x10, x2, #3
-	b.ls	.Lload640_BB0_26
+	b.ls	.Lload640_BB0_31
 	mov	w14, #6
 	mov	x1, x2
-	b	.Lload640_BB0_29
-.Lload640_BB0_26:
+	b	.Lload640_BB0_34
+.Lload640_BB0_31:
 	ldur	s1, [x0, #122]
 	movi	v3.2d, #0xffffffffffffffff
 	ldrb	w11, [x0, #127]
@@ -14926,7 +14972,7 @@ loamchalice_mlx90640_load:
 	str	x11, [sp, #536]
 	fdiv	v1.4s, v1.4s, v2.4s
 	str	q1, [sp, #512]
-	cbz	x2, .Lload640_BB0_38
+	cbz	x2, .Lload640_BB0_43
 	sub	x1, x2, #1
 	add	x11, sp, #536
 	add	x11, x11, x1, lsl #1
@@ -14944,10 +14990,10 @@ loamchalice_mlx90640_load:
 	fmov	s2, #1.00000000
 	fadd	s1, s1, s2
 	fcmp	s1, #0.0
-	b.ne	.Lload640_BB0_31
-.Lload640_BB0_28:
+	b.ne	.Lload640_BB0_36
+.Lload640_BB0_33:
 	mov	w14, #13
-.Lload640_BB0_29:
+.Lload640_BB0_34:
 	mov	w10, wzr
 	mov	w11, wzr
 	mov	w12, wzr
@@ -14969,7 +15015,7 @@ loamchalice_mlx90640_load:
 	movi	v1.2d, #0000000000000000
 	movi	v6.2d, #0000000000000000
 	stp	xzr, xzr, [sp, #496]
-.Lload640_BB0_30:
+.Lload640_BB0_35:
 	stur	q0, [x8, #40]
 	ldr	q0, [sp, #496]
 	stp	x14, x1, [x8]
@@ -14999,8 +15045,8 @@ loamchalice_mlx90640_load:
 	ldp	x28, x27, [sp, #16]
 	ldp	x29, x30, [sp], #96
 	ret
-.Lload640_BB0_31:
-	cbz	x1, .Lload640_BB0_38
+.Lload640_BB0_36:
+	cbz	x1, .Lload640_BB0_43
 	sub	x1, x2, #2
 	add	x11, sp, #536
 	add	x11, x11, x1, lsl #1
@@ -15018,8 +15064,8 @@ loamchalice_mlx90640_load:
 	fmov	s2, #1.00000000
 	fadd	s1, s1, s2
 	fcmp	s1, #0.0
-	b.eq	.Lload640_BB0_28
-	cbz	x1, .Lload640_BB0_38
+	b.eq	.Lload640_BB0_33
+	cbz	x1, .Lload640_BB0_43
 	add	x11, sp, #536
 	add	x11, x11, x10, lsl #1
 	ldrsh	w12, [x11, #2]
@@ -15036,20 +15082,20 @@ loamchalice_mlx90640_load:
 	fmov	s2, #1.00000000
 	fadd	s1, s1, s2
 	fcmp	s1, #0.0
-	b.ne	.Lload640_BB0_36
+	b.ne	.Lload640_BB0_41
 	mov	x1, x10
-	b	.Lload640_BB0_28
-.Lload640_BB0_36:
-	cbz	x10, .Lload640_BB0_38
+	b	.Lload640_BB0_33
+.Lload640_BB0_41:
+	cbz	x10, .Lload640_BB0_43
 	orr	x1, x2, #0xfffffffffffffffc
-	b	.Lload640_BB0_28
-.Lload640_BB0_38:
+	b	.Lload640_BB0_33
+.Lload640_BB0_43:
 	mov	x10, xzr
 	mov	x11, xzr
 	add	x12, x0, #128
 	mov	w13, #-64
 	add	x14, sp, #32
-.Lload640_BB0_39:
+.Lload640_BB0_44:
 	ldrb	w15, [x12], #2
 	ldrb	w17, [x0, #33]
 	and	x1, x10, #0x7c
@@ -15070,13 +15116,13 @@ loamchalice_mlx90640_load:
 	str	w15, [x3, x11, lsl #2]
 	add	x11, x11, #1
 	cmp	x11, #768
-	b.ne	.Lload640_BB0_39
+	b.ne	.Lload640_BB0_44
 	mov	x10, xzr
 	mov	x11, xzr
 	add	x12, x0, #129
 	add	x13, sp, #32
 	mov	w14, #1317011456
-.Lload640_BB0_41:
+.Lload640_BB0_46:
 	ldurb	w15, [x12, #-1]
 	ldrb	w16, [x12], #2
 	lsr	x17, x11, #3
@@ -15108,16 +15154,16 @@ loamchalice_mlx90640_load:
 	str	s0, [x5, x11, lsl #2]
 	add	x11, x11, #1
 	cmp	x11, #768
-	b.ne	.Lload640_BB0_41
+	b.ne	.Lload640_BB0_46
 	add	x10, x0, #1664
 	cmp	x7, x10
-	b.hs	.Lload640_BB0_45
+	b.hs	.Lload640_BB0_50
 	add	x10, x7, #3072
 	cmp	x9, x10
-	b.hs	.Lload640_BB0_45
+	b.hs	.Lload640_BB0_50
 	mov	x11, xzr
-	b	.Lload640_BB0_47
-.Lload640_BB0_45:
+	b	.Lload640_BB0_52
+.Lload640_BB0_50:
 	movi	v0.16b, #135
 	ld1r	{ v1.16b }, [x9]
 	movi	v2.16b, #15
@@ -15154,7 +15200,7 @@ loamchalice_mlx90640_load:
 	shl	v18.4s, v18.4s, #23
 	shl	v16.4s, v16.4s, #23
 	mov	w11, #752
-.Lload640_BB0_46:
+.Lload640_BB0_51:
 	add	x15, x0, x12
 	add	x12, x12, #32
 	ldr	q22, [x15]
@@ -15234,15 +15280,15 @@ loamchalice_mlx90640_load:
 	fdiv	v22.4s, v22.4s, v18.4s
 	stp	q27, q23, [x14, #32]
 	stp	q22, q25, [x14], #64
-	b.ne	.Lload640_BB0_46
-.Lload640_BB0_47:
+	b.ne	.Lload640_BB0_51
+.Lload640_BB0_52:
 	lsl	x10, x11, #1
 	add	x12, x0, #129
 	mov	w13, #4
 	mov	w14, #-8
 	add	x15, sp, #32
 	mov	w16, #1132462080
-.Lload640_BB0_48:
+.Lload640_BB0_53:
 	ldrb	w17, [x12, x10]
 	and	x18, x10, #0x2
 	ldrb	w1, [x9]
@@ -15265,7 +15311,7 @@ loamchalice_mlx90640_load:
 	str	s0, [x7, x11, lsl #2]
 	add	x11, x11, #1
 	cmp	x11, #768
-	b.ne	.Lload640_BB0_48
+	b.ne	.Lload640_BB0_53
 	ldur	s0, [x0, #122]
 	movi	v2.2d, #0xffffffffffffffff
 	ldrb	w9, [x0, #127]
@@ -15286,6 +15332,7 @@ loamchalice_mlx90640_load:
 	ldrb	w3, [x0, #101]
 	ldrb	w6, [x0, #32]
 	ldrb	w7, [x0, #96]
+	ldrb	w23, [x0, #97]
 	ldrb	w24, [x0, #120]
 	stp	xzr, xzr, [sp, #496]
 	sshr	v1.4h, v1.4h, #8
@@ -15312,16 +15359,14 @@ loamchalice_mlx90640_load:
 	bfi	x9, x11, #49, #9
 	mov	w11, #65496
 	orr	x9, x9, x11
-	ldrb	w11, [x0, #97]
 	str	x9, [sp, #536]
-	str	w11, [sp, #16]
 	rev64	v1.4s, v0.4s
 	str	q1, [sp, #512]
-	b.ne	.Lload640_BB0_51
+	b.ne	.Lload640_BB0_56
 	mov	w11, #1065353216
 	str	w11, [sp, #508]
-	b	.Lload640_BB0_54
-.Lload640_BB0_51:
+	b	.Lload640_BB0_59
+.Lload640_BB0_56:
 	add	x11, sp, #536
 	fmov	s0, #1.00000000
 	fmov	s2, #1.00000000
@@ -15330,7 +15375,7 @@ loamchalice_mlx90640_load:
 	add	x14, sp, #512
 	mov	x16, x2
 	add	x11, x11, #2
-.Lload640_BB0_52:
+.Lload640_BB0_57:
 	ldrsh	w19, [x11]
 	ldursh	w20, [x11, #-2]
 	add	x11, x11, #2
@@ -15347,10 +15392,10 @@ loamchalice_mlx90640_load:
 	fmul	s3, s4, s3
 	fadd	s3, s3, s0
 	fmul	s2, s2, s3
-	b.ne	.Lload640_BB0_52
+	b.ne	.Lload640_BB0_57
 	str	s2, [sp, #508]
-	cbz	x2, .Lload640_BB0_56
-.Lload640_BB0_54:
+	cbz	x2, .Lload640_BB0_61
+.Lload640_BB0_59:
 	add	x11, sp, #536
 	fmov	s0, #1.00000000
 	fmov	s2, #1.00000000
@@ -15359,7 +15404,7 @@ loamchalice_mlx90640_load:
 	add	x14, sp, #496
 	sub	x13, x13, #4
 	sub	x14, x14, #4
-.Lload640_BB0_55:
+.Lload640_BB0_60:
 	ldrsh	w16, [x11]
 	ldrsh	w19, [x11, #-2]!
 	subs	w16, w16, w19
@@ -15375,8 +15420,8 @@ loamchalice_mlx90640_load:
 	fadd	s3, s3, s0
 	fdiv	s2, s2, s3
 	str	s2, [x14, x16, lsl #2]
-	cbnz	x2, .Lload640_BB0_55
-.Lload640_BB0_56:
+	cbnz	x2, .Lload640_BB0_60
+.Lload640_BB0_61:
 	ldr	h0, [x0, #118]
 	ldrb	w14, [x0, #121]
 	ldrb	w21, [x0, #64]
@@ -15389,20 +15434,20 @@ loamchalice_mlx90640_load:
 	ldrb	w11, [x0, #113]
 	cset	w13, ne
 	stp	w12, w17, [sp, #24]
-	str	w6, [sp, #20]
+	stp	w23, w6, [sp, #16]
 	ushll	v3.4s, v0.4h, #0
 	stp	w16, w7, [sp, #8]
-	cbz	w14, .Lload640_BB0_58
+	cbz	w14, .Lload640_BB0_63
 	sxtb	w16, w14
 	cmn	w16, #1
 	mov	w16, #-256
 	csel	w16, wzr, w16, gt
 	orr	w14, w16, w14
 	scvtf	s2, w14, #5
-	b	.Lload640_BB0_59
-.Lload640_BB0_58:
+	b	.Lload640_BB0_64
+.Lload640_BB0_63:
 	movi	d2, #0000000000000000
-.Lload640_BB0_59:
+.Lload640_BB0_64:
 	sxtb	w16, w24
 	mov	w20, w24
 	lsl	w24, w19, #8
@@ -15558,7 +15603,7 @@ loamchalice_mlx90640_load:
 	fmov	w17, s24
 	mov	v0.d[1], v19.d[0]
 	orr	x15, x15, x17, lsl #32
-	b	.Lload640_BB0_30
+	b	.Lload640_BB0_35
 .Lload640_func_end0:
 	.size	loamchalice_mlx90640_load, .Lload640_func_end0-loamchalice_mlx90640_load
 
