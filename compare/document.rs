@@ -1,5 +1,5 @@
 //! What document 01 says of chip words, of offsets and of what stops a call, as document 02 mends it; written from the documents alone.
-use crate::library::{Frame, Record};
+use crate::library::{Frame, Ram, HEATS};
 use num_traits::Float;
 
 /// Number, place and value; all 0 for none.
@@ -164,26 +164,64 @@ pub fn signed(width: u32, x: u16) -> i32 {
     }
 }
 
-fn emissivity_stops(emissivity: f32) -> bool {
-    emissivity == 0.0 || emissivity.is_nan()
+/// What a verdict or the second pass reads of a frame of either camera, with the record's numbers for its subpage.
+pub struct Seen<'a> {
+    /// How many the camera has.
+    pub pixels: usize,
+    /// Of the shortest table that infrared takes.
+    pub without_alpha: usize,
+    pub alpha: usize,
+    pub pixel_bytes: usize,
+    pub mask: usize,
+    pub emissivity: f32,
+    pub range: usize,
+    pub reflected: Option<f32>,
+    pub heating: f32,
+    pub ram: Ram,
+    pub k_v_dd: i16,
+    pub v_dd_25: i16,
+    pub k_v_ptat: f32,
+    pub k_t_ptat: f32,
+    pub alpha_ptat: f32,
+    pub k_s_ta: f32,
+    pub alpha_cp: f32,
+    pub gradient: Option<f32>,
+    /// As many as there are ranges; so are the next two.
+    pub corners: &'a [i16],
+    pub k_s_to: &'a [f32],
+    pub coefficients: &'a [f32],
 }
 
-// 7, then 8.
-fn reading(record: &Record, f: &Frame) -> Verdict {
-    let difference = i32::from(f.ram.v_dd_pixel) - i32::from(record.v_dd_25);
-    if i16::try_from(difference).is_err() {
-        return (7, 0, 0);
+/// Of a frame of the MLX90641.
+pub fn seen(f: &Frame) -> Seen<'_> {
+    let r = &f.record;
+    Seen {
+        pixels: 192,
+        without_alpha: f.tables.without_alpha(),
+        alpha: f.tables.alpha.len(),
+        pixel_bytes: f.pixels.len(),
+        mask: f.mask.len(),
+        emissivity: f.emissivity,
+        range: f.range,
+        reflected: f.reflected,
+        heating: HEATS[f.heat],
+        ram: f.ram,
+        k_v_dd: r.k_v_dd,
+        v_dd_25: r.v_dd_25,
+        k_v_ptat: r.k_v_ptat,
+        k_t_ptat: r.k_t_ptat,
+        alpha_ptat: r.alpha_ptat,
+        k_s_ta: r.k_s_ta,
+        alpha_cp: r.alpha_cp,
+        gradient: (r.has_gradient != 0).then_some(r.gradient),
+        corners: &r.corner_temperatures,
+        k_s_to: &r.k_s_to,
+        coefficients: &r.range_coefficients,
     }
-    let delta = difference as f32 / f32::from(record.k_v_dd);
-    let zero = record.k_v_dd == 0
-        || f.ram.gain == 0
-        || record.k_t_ptat == 0.0
-        || 1.0 + record.k_v_ptat * delta == 0.0
-        || f32::from(f.ram.t_a_ptat) * record.alpha_ptat + f32::from(f.ram.t_a_v_be) == 0.0;
-    if zero || emissivity_stops(f.emissivity) {
-        return (8, 0, 0);
-    }
-    (0, 0, 0)
+}
+
+fn emissivity_stops(emissivity: f32) -> bool {
+    emissivity == 0.0 || emissivity.is_nan()
 }
 
 // 10, of what is lent beside the tables, in this order.
@@ -191,96 +229,167 @@ fn short(lent: &[(usize, usize)]) -> Option<Verdict> {
     lent.iter().find(|(length, least)| length < least).map(|(length, _)| (10, *length as u64, 0))
 }
 
-/// For a destination of so many entries, as the two below.
+impl Seen<'_> {
+    // 7, then 8.
+    fn reading(&self) -> Verdict {
+        let difference = i32::from(self.ram.v_dd_pixel) - i32::from(self.v_dd_25);
+        if i16::try_from(difference).is_err() {
+            return (7, 0, 0);
+        }
+        let delta = difference as f32 / f32::from(self.k_v_dd);
+        let zero = self.k_v_dd == 0
+            || self.ram.gain == 0
+            || self.k_t_ptat == 0.0
+            || 1.0 + self.k_v_ptat * delta == 0.0
+            || f32::from(self.ram.t_a_ptat) * self.alpha_ptat + f32::from(self.ram.t_a_v_be) == 0.0;
+        if zero || emissivity_stops(self.emissivity) {
+            return (8, 0, 0);
+        }
+        (0, 0, 0)
+    }
+
+    // Of a call from pixels, for a destination of so many entries, as the next three.
+    fn lent(&self, destination: usize) -> Option<Verdict> {
+        short(&[(self.pixel_bytes, 2 * self.pixels), (destination, self.pixels), (self.mask, self.pixels)])
+    }
+
+    pub fn infrared(&self, destination: usize) -> Verdict {
+        if self.without_alpha < self.pixels {
+            return (2, 0, 0);
+        }
+        self.lent(destination).unwrap_or_else(|| self.reading())
+    }
+
+    pub fn temperature(&self, destination: usize) -> Verdict {
+        if self.alpha < self.pixels {
+            return (2, 0, 0);
+        }
+        if let Some(short) = short(&[(destination, self.pixels), (self.mask, self.pixels)]) {
+            return short;
+        }
+        if self.range >= self.corners.len() {
+            return (6, self.range as u64, 0);
+        }
+        if emissivity_stops(self.emissivity) {
+            return (8, 0, 0);
+        }
+        (0, 0, 0)
+    }
+
+    pub fn one_pass(&self, destination: usize) -> Verdict {
+        if self.without_alpha.min(self.alpha) < self.pixels {
+            return (2, 0, 0);
+        }
+        if let Some(short) = self.lent(destination) {
+            return short;
+        }
+        if self.range >= self.corners.len() {
+            return (6, self.range as u64, 0);
+        }
+        self.reading()
+    }
+
+    /// The second pass: as one pass, and then 12 for corners that don't rise.
+    pub fn ranged(&self, destination: usize) -> Verdict {
+        let verdict = self.one_pass(destination);
+        if verdict.0 != 0 {
+            return verdict;
+        }
+        match (1..self.corners.len()).find(|k| self.corners[*k] <= self.corners[*k - 1]) {
+            Some(corner) => (12, corner as u64, 0),
+            None => (0, 0, 0),
+        }
+    }
+}
+
+/// For a destination of so many entries, as the three below.
 pub fn infrared(f: &Frame, destination: usize) -> Verdict {
-    if f.tables.without_alpha() < 192 {
-        return (2, 0, 0);
-    }
-    if let Some(short) = short(&[(f.pixels.len(), 384), (destination, 192), (f.mask.len(), 192)]) {
-        return short;
-    }
-    reading(&f.record, f)
+    seen(f).infrared(destination)
 }
 
 pub fn temperature(f: &Frame, destination: usize) -> Verdict {
-    if f.tables.alpha.len() < 192 {
-        return (2, 0, 0);
-    }
-    if let Some(short) = short(&[(destination, 192), (f.mask.len(), 192)]) {
-        return short;
-    }
-    if f.range > 7 {
-        return (6, f.range as u64, 0);
-    }
-    if emissivity_stops(f.emissivity) {
-        return (8, 0, 0);
-    }
-    (0, 0, 0)
+    seen(f).temperature(destination)
 }
 
 pub fn one_pass(f: &Frame, destination: usize) -> Verdict {
-    if f.tables.shortest() < 192 {
-        return (2, 0, 0);
-    }
-    if let Some(short) = short(&[(f.pixels.len(), 384), (destination, 192), (f.mask.len(), 192)]) {
-        return short;
-    }
-    if f.range > 7 {
-        return (6, f.range as u64, 0);
-    }
-    reading(&f.record, f)
+    seen(f).one_pass(destination)
 }
 
-/// The second pass: as one pass, and then 12 for corners that don't rise.
 pub fn ranged(f: &Frame, destination: usize) -> Verdict {
-    let verdict = one_pass(f, destination);
-    if verdict.0 != 0 {
-        return verdict;
+    seen(f).ranged(destination)
+}
+
+/// What all infrared numbers of a frame share.
+pub struct Shared {
+    pub gain: f32,
+    pub supply: f32,
+    pub t_a: f32,
+    pub emissivity: f32,
+}
+
+/// A reading and its numbers, of a pixel or of the compensation pixel. The reading is an f32, since a filter's answer need not be whole.
+pub struct Reading {
+    pub reading: f32,
+    pub offset: i32,
+    pub k_v: f32,
+    pub k_ta: f32,
+    pub access: f32,
+}
+
+impl Shared {
+    /// From the record's gain and supply numbers, and t_a.
+    pub fn new(seen: &Seen, gain: f32, resolution_correction: f32, v_dd_0: f32, t_a: f32) -> Self {
+        let delta = (i32::from(seen.ram.v_dd_pixel) - i32::from(seen.v_dd_25)) as f32 / f32::from(seen.k_v_dd);
+        let supply = delta * resolution_correction + v_dd_0;
+        Shared { gain: gain / f32::from(seen.ram.gain), supply, t_a, emissivity: seen.emissivity }
     }
-    let corners = &f.record.corner_temperatures;
-    match (1..8).find(|k| corners[*k] <= corners[*k - 1]) {
-        Some(corner) => (12, corner as u64, 0),
-        None => (0, 0, 0),
+
+    // v before the gradient; the offset enters as f32, to nearest, ties to even, which is what `as` does.
+    fn plain(&self, x: &Reading) -> f32 {
+        let offset = (x.offset as f32 * (1.0 + x.k_ta * (self.t_a - 25.0))) * (1.0 + x.k_v * (self.supply - 3.3));
+        ((x.reading * self.gain + x.access) - offset) / self.emissivity
+    }
+
+    /// A pixel's infrared number.
+    pub fn infrared(&self, pixel: &Reading, gradient: Option<f32>, compensation: &Reading) -> f32 {
+        let v = self.plain(pixel);
+        gradient.map_or(v, |gradient| v - gradient * self.plain(compensation))
     }
 }
 
-// v before the gradient, of a reading with these numbers; the offset enters as f32, to nearest, ties to even, which is what `as` does.
-fn plain(f: &Frame, t_a: f32, reading: i16, offset: i32, k_v: f32, k_ta: f32) -> f32 {
-    let r = &f.record;
-    let delta = (i32::from(f.ram.v_dd_pixel) - i32::from(r.v_dd_25)) as f32 / f32::from(r.k_v_dd);
-    let supply = delta * f.resolution_correction + f.v_dd_0;
-    let gain = r.gain / f32::from(f.ram.gain);
-    ((f32::from(reading) * gain + 0.0) - (offset as f32 * (1.0 + k_ta * (t_a - 25.0))) * (1.0 + k_v * (supply - 3.3))) / f.emissivity
-}
-
-/// A pixel's infrared number, for offsets that the crate can't hold.
+/// The same of a frame of the MLX90641, for offsets that the crate can't hold.
 pub fn infrared_number(f: &Frame, t_a: f32, i: usize) -> f32 {
+    let (seen, r) = (seen(f), &f.record);
     let reading = i16::from_be_bytes([f.pixels[2 * i], f.pixels[2 * i + 1]]);
     let offset = f.tables.offsets[usize::from(f.subpage != 0)][i];
-    let v = plain(f, t_a, reading, offset, f.tables.k_v[i], f.tables.k_ta[i]);
-    let r = &f.record;
-    if r.has_gradient == 0 {
-        return v;
-    }
-    v - r.gradient * plain(f, t_a, f.ram.compensation_pixel, i32::from(r.offset_reference_cp), r.k_v_cp, r.k_ta_cp)
+    let pixel = Reading { reading: reading.into(), offset, k_v: f.tables.k_v[i], k_ta: f.tables.k_ta[i], access: 0.0 };
+    let (reading, offset) = (f.ram.compensation_pixel.into(), r.offset_reference_cp.into());
+    let compensation = Reading { reading, offset, k_v: r.k_v_cp, k_ta: r.k_ta_cp, access: 0.0 };
+    Shared::new(&seen, r.gain, f.resolution_correction, f.v_dd_0, t_a).infrared(&pixel, seen.gradient, &compensation)
 }
 
 fn fourth(x: f32) -> f32 {
     (x * x) * (x * x)
 }
 
-/// A pixel's temperature in the second pass, from its infrared number and its basic temperature.
-pub fn ranged_temperature(f: &Frame, heating: f32, t_a: f32, alpha: f32, v: f32, basic: f32) -> f32 {
-    let r = &f.record;
-    if basic.is_nan() {
-        return f32::NAN;
+impl Seen<'_> {
+    /// The range that holds a temperature.
+    pub fn range_of(&self, temperature: f32) -> usize {
+        (0..self.corners.len()).rev().find(|k| f32::from(self.corners[*k]) <= temperature).unwrap_or(0)
     }
-    let range = (0..8).rev().find(|k| f32::from(r.corner_temperatures[*k]) <= basic).unwrap_or(0);
-    let alpha = if r.has_gradient == 0 { alpha } else { alpha - r.alpha_cp * r.gradient };
-    let a = alpha * (1.0 + r.k_s_ta * (t_a - 25.0));
-    let (a4, r4) = (fourth(t_a + 273.15), fourth(f.reflected.unwrap_or(t_a - heating) + 273.15));
-    let t_ar = if f.emissivity == 1.0 { a4 } else { r4 - (r4 - a4) / f.emissivity };
-    let growth = 1.0 + r.k_s_to[range] * (basic - f32::from(r.corner_temperatures[range]));
-    let x = v / (a * r.range_coefficients[range] * growth) + t_ar;
-    x.document_root() - 273.15
+
+    /// A pixel's temperature in the second pass, from its infrared number and its basic temperature.
+    pub fn ranged_temperature(&self, t_a: f32, alpha: f32, v: f32, basic: f32) -> f32 {
+        if basic.is_nan() {
+            return f32::NAN;
+        }
+        let range = self.range_of(basic);
+        let alpha = self.gradient.map_or(alpha, |gradient| alpha - self.alpha_cp * gradient);
+        let a = alpha * (1.0 + self.k_s_ta * (t_a - 25.0));
+        let (a4, r4) = (fourth(t_a + 273.15), fourth(self.reflected.unwrap_or(t_a - self.heating) + 273.15));
+        let t_ar = if self.emissivity == 1.0 { a4 } else { r4 - (r4 - a4) / self.emissivity };
+        let growth = 1.0 + self.k_s_to[range] * (basic - f32::from(self.corners[range]));
+        let x = v / (a * self.coefficients[range] * growth) + t_ar;
+        x.document_root() - 273.15
+    }
 }

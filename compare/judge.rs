@@ -3,11 +3,14 @@
 //! Any not-a-number of the crate's equals the library's, which must have the bits 0x7FC00000. What stops a call is worked out here
 //! afresh from document 01, or the MLX90640's paper, and set beside the crate's errors and panics. The exit status is 0 if nothing disagreed.
 mod bigger;
+mod border640;
 mod cards;
 mod cards640;
 mod document;
 mod frames;
+mod frames640;
 mod library;
+mod library640;
 mod loads640;
 mod numbers;
 mod roots;
@@ -33,7 +36,7 @@ fn main() {
             shown(info);
         }
     }));
-    println!("seed {seed}, {cards} cards of each camera, {frames} frames, {}", std::env::consts::ARCH);
+    println!("seed {seed}, {cards} cards and {frames} frames of each camera, {}", std::env::consts::ARCH);
     let mut tally = Tally::new();
     words::compare(&mut tally);
     bigger::compare(&mut tally);
@@ -41,6 +44,7 @@ fn main() {
     cards::compare(&mut tally, seed, cards);
     loads640::compare(&mut tally, seed, cards);
     frames::compare(&mut tally, seed, frames);
+    frames640::compare(&mut tally, seed, frames);
     tally.report();
     if tally.disagreements > 0 {
         std::process::exit(1);
