@@ -16,6 +16,8 @@ pub struct Powf {
     differ: u64,
     degrees: f32,
     worst: String,
+    // Of temperatures from -40 to 300.
+    inside: f32,
     kinds_differ: u64,
 }
 
@@ -295,6 +297,9 @@ pub fn compare_powf(powf: &mut Powf, label: &str, published: &[f32], after: &[u3
         } else if b.is_finite() {
             powf.pixels += 1;
             powf.differ += u64::from(*a != b);
+            if (-40.0..=300.0).contains(&b) {
+                powf.inside = powf.inside.max((a - b).abs());
+            }
             if (a - b).abs() > powf.degrees {
                 powf.degrees = (a - b).abs();
                 powf.worst = format!("{label}, pixel {i}: powf {a:?}, root {b:?}");
@@ -514,8 +519,8 @@ pub fn compare(tally: &mut Tally, seed: u64, frames: u64) {
 pub fn tell_powf(tally: &mut Tally, classes: [&str; 2], powf: &[Powf; 2]) {
     for (what, p) in classes.iter().zip(powf) {
         tally.notes.push(format!(
-            "powf as published, {what}: {} temperatures, {} differ, at most by {} degrees ({}); {} where one is infinite or not a number and the other is not",
-            p.pixels, p.differ, p.degrees, p.worst, p.kinds_differ
+            "powf as published, {what}: {} temperatures, {} differ, at most by {} degrees ({}), from -40 to 300 degrees by {}; {} where one is infinite or not a number and the other is not",
+            p.pixels, p.differ, p.degrees, p.worst, p.inside, p.kinds_differ
         ));
     }
 }

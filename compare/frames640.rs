@@ -7,6 +7,7 @@ use crate::document::{Reading, Seen, Shared, Verdict};
 use crate::frames::{self, compare_powf, floats, from_basic, judge, of_call, tell_powf, Judged, Powf, Said};
 use crate::library::{Answer, Ram, Record640, Tables640};
 use crate::library640::{self as library, Frame640, HEATS};
+use crate::loads640::edges;
 use crate::numbers::Numbers;
 use crate::tally::{of_crate, progress, Tally};
 
@@ -253,13 +254,17 @@ fn made(n: &mut Numbers) -> (&'static str, Frame640) {
     match kind {
         0 => return ("zeros", of_zeros(n)),
         1 => {
-            let image = card(n, |n| if n.one_in(2) { cards640::mild(n) } else { cards640::sparse(n) });
+            let image = card(n, |n| match n.below(4) {
+                0 | 1 => cards640::mild(n),
+                2 => cards640::sparse(n),
+                _ => edges(n),
+            });
             let mut f = on_card(n, image);
             if n.one_in(2) {
                 f.ram = any_ram(n);
             }
             vary(n, &mut f);
-            return ("mild and sparse cards", f);
+            return ("mild, sparse and odd cards", f);
         }
         _ => {}
     }

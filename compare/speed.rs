@@ -401,6 +401,7 @@ fn time_frames_640(name: &str, pattern: u8) {
     let t_a = published::infrared_640(&p, &frames[0], &mut v_ir);
     let v_ir_bits = v_ir.map(f32::to_bits);
     let mut least = [[f64::MAX; 3]; 3];
+    let mut in_turn = [f64::MAX; 3];
     let mut others = [f64::MAX; 4];
     let whole: Vec<Frame640> = frames.iter().map(|f| Frame640 { mask: vec![1; 768], ..f.clone() }).collect();
     let n = frames.len();
@@ -409,6 +410,9 @@ fn time_frames_640(name: &str, pattern: u8) {
         keep(&mut pass[0], time(BIGGER_FRAMES, |k| { black_box(published::one_pass_640(&p, black_box(&frames[k % n]), black_box(&mut a))); }));
         keep(&mut pass[1], time(BIGGER_FRAMES, |k| { black_box(rooted::one_pass_640(&r, black_box(&frames[k % n]), black_box(&mut a))); }));
         keep(&mut pass[2], time(BIGGER_FRAMES, |k| { black_box(library640::raw_pixels_to_temperatures(black_box(&frames[k % n]), black_box(&mut b))); }));
+        // The same numbers by the crate's two other calls, which its compiled one pass is slower than.
+        keep(&mut in_turn[0], time(BIGGER_FRAMES, |k| { let f = &frames[k % n]; let t_a = published::infrared_640(&p, black_box(f), black_box(&mut a)); published::temperatures_640(&p, f, t_a, black_box(&mut a)); }));
+        keep(&mut in_turn[1], time(BIGGER_FRAMES, |k| { let f = &frames[k % n]; let t_a = rooted::infrared_640(&r, black_box(f), black_box(&mut a)); rooted::temperatures_640(&r, f, t_a, black_box(&mut a)); }));
         let infrared = &mut least[1];
         keep(&mut infrared[0], time(BIGGER_FRAMES, |k| { black_box(published::infrared_640(&p, black_box(&frames[k % n]), black_box(&mut a))); }));
         keep(&mut infrared[1], time(BIGGER_FRAMES, |k| { black_box(rooted::infrared_640(&r, black_box(&frames[k % n]), black_box(&mut a))); }));
@@ -425,6 +429,8 @@ fn time_frames_640(name: &str, pattern: u8) {
         keep(&mut others[3], time(BIGGER_FRAMES, |k| { black_box(library640::raw_pixels_to_temperatures(black_box(&whole[k % n]), black_box(&mut b))); }));
     }
     line(&format!("one pass, a subpage of the MLX90640 in {name}"), least[0]);
+    in_turn[2] = least[0][2];
+    line("beside the crate's infrared and temperatures in turn", in_turn);
     let names = ["with a filter's answer", "the second pass", "the second pass with a filter's answer", "all 768 pixels asked for"];
     for (what, time) in names.iter().zip(others) {
         println!("{what}, MLX90640 in {name}\tlibrary {time:.0} ns\tover one pass {:.2}", time / least[0][2]);
