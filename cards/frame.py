@@ -4,18 +4,19 @@ A binary32 number is a Python float that has its value. A sum, difference, produ
 binary64 and then rounded to binary32, is the exact one rounded once: binary64 has more than twice the digits and two, and so wide a range
 that none of these ends it. So a square root is the f32 nearest to the exact one, and the root of document 01 is two of those.
 
-A camera is a record and five tables, as stream.py has them: whole numbers, and bits. A frame is a dict:
+A camera is a record and five tables, as stream.py has them: whole numbers, and bits. What differs for the MLX90640 is in frame640.py, and handed in.
+A frame is a dict:
 emissivity, resolution_correction, v_dd_0, reflected   bits; the last is the self-heating where `given` is false
 range, subpage, given
 v_be, ptat, v_dd_pixel, gain, cp                       the RAM words
 lengths                                                how much is lent of offsets 0, offsets 1, alpha, K_V, K_Ta, pixel bytes, mask and destination
 pixels, mask, destination                              400 bytes, 200 bytes, 200 bits"""
+import collections
 import math
 import struct
 
 NAN = 0x7FC00000
 INFINITY = math.inf
-PIXELS = 192
 
 
 # ---- binary32
@@ -110,34 +111,55 @@ def reflected_term(frame, t_a):
     return a4 if e == 1 else sub(r4, div(sub(r4, a4), e))
 
 
+# ---- What differs by camera
+
+# How many pixels and ranges there are; the tables that a call takes, by their place among the lengths; and a function from camera and frame to what
+# is taken of the tables and by the subpage
+Differs = collections.namedtuple("Differs", "pixels ranges takes taken")
+
+# Of each pixel its offset, the bits of K_V, K_Ta and alpha, and its access term; of the compensation pixel its offset, the bits of its alpha, and its
+# access term
+Taken = collections.namedtuple("Taken", "offsets k_v k_ta alpha access offset_cp alpha_cp access_cp")
+
+
+def taken(camera, frame):
+    record, (offsets0, offsets1, alpha, k_v, k_ta) = camera
+    return Taken(offsets1 if frame["subpage"] else offsets0, k_v, k_ta, alpha, [0.0] * 192, record["offset_cp"], record["alpha_cp"], 0.0)
+
+
+TAKES = {"infrared": (0, 1, 3, 4), "temperatures": (2,), "one pass": (0, 1, 2, 3, 4), "second pass": (0, 1, 2, 3, 4)}
+MLX90641 = Differs(192, 8, TAKES, taken)
+
+
 # ---- A pixel
 
-def infrared_number(reading, gain, supply, emissivity, t_a, offset, k_v, k_ta):
+def infrared_number(reading, gain, supply, emissivity, t_a, offset, k_v, k_ta, access):
     by_ambient = add(1.0, mul(k_ta, sub(t_a, 25.0)))
     by_supply = add(1.0, mul(k_v, sub(supply, f32(3.3))))
     part = mul(mul(f32(offset), by_ambient), by_supply)
-    return div(sub(add(mul(f32(reading), gain), 0.0), part), emissivity)
+    return div(sub(add(mul(f32(reading), gain), access), part), emissivity)
 
 
-def infrared_numbers(camera, frame, average):
+def infrared_numbers(record, taken, frame, average):
     """t_a, and v of every pixel. The average, if there is one, stands for the reading of the compensation pixel."""
-    record, (offsets0, offsets1, _, k_vs, k_tas) = camera
     gain, supply, t_a = common(record, frame)
     e = number(frame["emissivity"])
     compensation = frame["cp"] if average is None else average
-    cp = infrared_number(compensation, gain, supply, e, t_a, record["offset_cp"], number(record["k_v_cp"]), number(record["k_ta_cp"]))
-    readings = struct.unpack(">192h", frame["pixels"][:384])
+    k_v_cp, k_ta_cp = number(record["k_v_cp"]), number(record["k_ta_cp"])
+    cp = infrared_number(compensation, gain, supply, e, t_a, taken.offset_cp, k_v_cp, k_ta_cp, taken.access_cp)
+    pixels = len(taken.access)
+    readings = struct.unpack(">%dh" % pixels, frame["pixels"][:2 * pixels])
     numbers = []
-    for reading, offset, k_v, k_ta in zip(readings, offsets1 if frame["subpage"] else offsets0, k_vs, k_tas):
-        v = infrared_number(reading, gain, supply, e, t_a, offset, number(k_v), number(k_ta))
+    for reading, offset, k_v, k_ta, access in zip(readings, taken.offsets, taken.k_v, taken.k_ta, taken.access):
+        v = infrared_number(reading, gain, supply, e, t_a, offset, number(k_v), number(k_ta), access)
         numbers.append(v if record["gradient"] is None else sub(v, mul(number(record["gradient"]), cp)))
     return t_a, numbers
 
 
-def sensitivity(record, t_a, alpha):
+def sensitivity(record, t_a, alpha, alpha_cp):
     """A."""
     if record["gradient"] is not None:
-        alpha = sub(alpha, mul(number(record["alpha_cp"]), number(record["gradient"])))
+        alpha = sub(alpha, mul(alpha_cp, number(record["gradient"])))
     return mul(alpha, add(1.0, mul(number(record["k_s_ta"]), sub(t_a, 25.0))))
 
 
@@ -159,12 +181,11 @@ def ranged_value(record, basic, v, a, t_ar):
     return add(div(v, mul(mul(a, coefficient), add(1.0, mul(k, sub(basic, t))))), t_ar)
 
 
-def temperatures(camera, frame, t_a, numbers, second):
-    record, tables = camera
+def temperatures(record, taken, frame, t_a, numbers, second):
     t_ar, k = reflected_term(frame, t_a), number(record["k_s_to"][frame["range"]])
     found = []
-    for v, alpha in zip(numbers, tables[2]):
-        a = sensitivity(record, t_a, number(alpha))
+    for v, alpha in zip(numbers, taken.alpha):
+        a = sensitivity(record, t_a, number(alpha), number(taken.alpha_cp))
         temperature = sub(root(final_value(k, v, a, t_ar)), KELVIN)
         if second:
             lost = math.isnan(temperature)
@@ -175,20 +196,19 @@ def temperatures(camera, frame, t_a, numbers, second):
 
 # ---- The gates
 
-# The tables that a call takes, by their place among the lengths
-TAKES = {"infrared": (0, 1, 3, 4), "temperatures": (2,), "one pass": (0, 1, 2, 3, 4), "second pass": (0, 1, 2, 3, 4)}
-BYTES, MASK, DESTINATION = 5, 6, 7
+# Places among the lengths, for either camera
+BYTES, MASK, DESTINATION = -3, -2, -1
 
 
-def refusal(call, record, frame):
+def refusal(call, differs, record, frame):
     """Number, place and value, in the order of tests 2, 10, 6, 7, 8, 12."""
     lengths, e = frame["lengths"], number(frame["emissivity"])
-    if any(lengths[table] < PIXELS for table in TAKES[call]):
+    if any(lengths[table] < differs.pixels for table in differs.takes[call]):
         return 2, 0, 0
-    for what, least in ((BYTES, 384), (DESTINATION, PIXELS), (MASK, PIXELS)):
+    for what, least in ((BYTES, 2 * differs.pixels), (DESTINATION, differs.pixels), (MASK, differs.pixels)):
         if lengths[what] < least and not (call == "temperatures" and what == BYTES):
             return 10, lengths[what], 0
-    if call != "infrared" and frame["range"] > 7:
+    if call != "infrared" and frame["range"] >= differs.ranges:
         return 6, frame["range"], 0
     if call != "temperatures":
         if not -32768 <= frame["v_dd_pixel"] - record["v_dd_25"] <= 32767:
@@ -200,7 +220,7 @@ def refusal(call, record, frame):
     if e == 0 or math.isnan(e):
         return 8, 0, 0
     if call == "second pass":
-        for corner in range(1, 8):
+        for corner in range(1, differs.ranges):
             if record["corners"][corner] <= record["corners"][corner - 1]:
                 return 12, corner, 0
     return 0, 0, 0
@@ -208,21 +228,22 @@ def refusal(call, record, frame):
 
 # ---- A call
 
-def answer(call, camera, frame, average=None, t_a=None):
+def answer(call, camera, frame, average=None, t_a=None, differs=MLX90641):
     """Number, place and value; bits of t_a, how many pixels were lost, and the destination after the call. For temperatures t_a is bits that are
     handed in."""
-    destination = list(frame["destination"])
-    told = refusal(call, camera[0], frame)
+    record, destination = camera[0], list(frame["destination"])
+    told = refusal(call, differs, record, frame)
     if told[0]:
         return told, 0, 0, destination
+    taken = differs.taken(camera, frame)
     if call == "temperatures":
-        t_a, values = number(t_a), [number(b) for b in destination[:PIXELS]]
+        t_a, values = number(t_a), [number(b) for b in destination[:differs.pixels]]
     else:
-        t_a, values = infrared_numbers(camera, frame, average)
+        t_a, values = infrared_numbers(record, taken, frame, average)
     if call != "infrared":
-        values = temperatures(camera, frame, t_a, values, call == "second pass")
+        values = temperatures(record, taken, frame, t_a, values, call == "second pass")
     lost = 0
-    for i in range(PIXELS):
+    for i in range(differs.pixels):
         if frame["mask"][i]:
             destination[i] = bits(values[i])
             lost += destination[i] == NAN

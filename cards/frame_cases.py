@@ -8,7 +8,7 @@ from chip import NO_RECORD
 from frame import KELVIN, bits, f32, number
 from images import card, image_of
 from stream import FILTER, FILTERED_INFRARED, FILTERED_ONE_PASS, FILTERED_SECOND_PASS, INFRARED, NAN, ONE_PASS, SECOND_PASS, TEMPERATURES
-from stream import i16, record, tables, told, u8, u16, u32, u64
+from stream import MLX90641, i16, record, tables, told, u8, u16, u32, u64
 
 # Kinds by call, plain and filtered
 PLAIN = {"infrared": INFRARED, "one pass": ONE_PASS, "second pass": SECOND_PASS}
@@ -77,10 +77,18 @@ def camera_bytes(camera):
     return record(camera[0]) + tables(camera[1])
 
 
-def frame_bytes(frame):
+def first_bytes(frame):
+    """Those that a frame of either camera begins with."""
     whole = u32(frame["emissivity"], frame["resolution_correction"], frame["v_dd_0"], frame["reflected"]) + u64(frame["range"])
-    whole += i16(frame["v_be"], frame["ptat"], frame["v_dd_pixel"], frame["gain"], frame["cp"]) + u8(frame["subpage"], frame["given"])
-    whole += u16(*frame["lengths"]) + frame["pixels"] + frame["mask"] + u32(*frame["destination"])
+    return whole + i16(frame["v_be"], frame["ptat"], frame["v_dd_pixel"], frame["gain"], frame["cp"]) + u8(frame["subpage"], frame["given"])
+
+
+def last_bytes(frame):
+    return u16(*frame["lengths"]) + frame["pixels"] + frame["mask"] + u32(*frame["destination"])
+
+
+def frame_bytes(frame):
+    whole = first_bytes(frame) + last_bytes(frame)
     assert len(whole) == 1452
     return whole
 
@@ -94,35 +102,40 @@ def answer_bytes(answer):
 
 class Calls:
     """Calls on frames. They are written by camera and by frame, each in the order of its first case, so that none comes twice."""
+    sensor, differs = MLX90641, model.MLX90641
+    plain, filtered, from_infrared = PLAIN, FILTERED, TEMPERATURES
+    camera_bytes, frame_bytes = staticmethod(camera_bytes), staticmethod(frame_bytes)
 
     def __init__(self):
         self.cameras = {}
 
     def put(self, kind, name, camera, frame, given, answer):
-        frames = self.cameras.setdefault(camera_bytes(camera), (name, {}))[1]
-        calls = frames.setdefault(frame_bytes(frame), (name, []))[1]
+        frames = self.cameras.setdefault(self.camera_bytes(camera), (name, {}))[1]
+        calls = frames.setdefault(self.frame_bytes(frame), (name, []))[1]
         calls.append((kind, name, given, answer_bytes(answer)))
 
     def call(self, call, name, camera, frame, filtered=None):
         """A filter's answer is NOT_YET or AVERAGE, and the bits of the average, which do not matter where there is none yet."""
         if filtered is None:
-            answer = model.answer(call, camera, frame)
-            self.put(PLAIN[call], name, camera, frame, b"", answer)
+            answer = model.answer(call, camera, frame, differs=self.differs)
+            self.put(self.plain[call], name, camera, frame, b"", answer)
         else:
-            answer = model.answer(call, camera, frame, number(filtered[1]) if filtered[0] else None)
-            self.put(FILTERED[call], name, camera, frame, u8(filtered[0]) + u32(filtered[1]), answer)
+            answer = model.answer(call, camera, frame, number(filtered[1]) if filtered[0] else None, differs=self.differs)
+            self.put(self.filtered[call], name, camera, frame, u8(filtered[0]) + u32(filtered[1]), answer)
         return answer
 
     def temperatures(self, name, camera, frame, t_a=T_A, destination=None):
         given = u32(t_a) if destination is None else u32(t_a, *destination)
-        answer = model.answer("temperatures", camera, frame if destination is None else dict(frame, destination=destination), t_a=t_a)
-        self.put(TEMPERATURES, name, camera, frame, given, answer)
+        frame_before = frame if destination is None else dict(frame, destination=destination)
+        answer = model.answer("temperatures", camera, frame_before, t_a=t_a, differs=self.differs)
+        self.put(self.from_infrared, name, camera, frame, given, answer)
+        return answer
 
     def write(self, out):
         for camera, (name, frames) in self.cameras.items():
             for frame, (frame_name, calls) in frames.items():
                 for kind, call_name, given, answer in calls:
-                    out.stand(name if camera != out.camera else frame_name, camera, frame)
+                    out.stand(self.sensor, name if camera != out.standing[self.sensor][0] else frame_name, camera, frame)
                     out.case(kind, call_name, given, answer)
 
 

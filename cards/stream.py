@@ -5,12 +5,21 @@ import struct
 NAMES = (
     "encode", "check", "load", "row", "subpage", "read words", "write", "scrub", "burn", "pieces", "filter", "camera", "frame",
     "infrared", "one pass", "second pass", "filtered infrared", "filtered one pass", "filtered second pass", "temperatures",
-    "MLX90640 word", "MLX90640 split", "MLX90640 pixel", "MLX90640 load")
+    "MLX90640 word", "MLX90640 split", "MLX90640 pixel", "MLX90640 load", "MLX90640 mask", "MLX90640 camera", "MLX90640 frame",
+    "MLX90640 infrared", "MLX90640 one pass", "MLX90640 second pass", "MLX90640 filtered infrared", "MLX90640 filtered one pass",
+    "MLX90640 filtered second pass", "MLX90640 temperatures")
 KINDS = dict(enumerate(NAMES, 1))
 ENCODE, CHECK, LOAD, ROW, SUBPAGE, READ_WORDS, WRITE, SCRUB, BURN, PIECES, FILTER, CAMERA, FRAME = range(1, 14)
 INFRARED, ONE_PASS, SECOND_PASS, FILTERED_INFRARED, FILTERED_ONE_PASS, FILTERED_SECOND_PASS, TEMPERATURES = range(14, 21)
-BIGGER_WORD, BIGGER_SPLIT, BIGGER_PIXEL, BIGGER_LOAD = range(21, 25)
-ON_A_FRAME = range(INFRARED, TEMPERATURES + 1)
+BIGGER_WORD, BIGGER_SPLIT, BIGGER_PIXEL, BIGGER_LOAD, BIGGER_MASK, BIGGER_CAMERA, BIGGER_FRAME = range(21, 28)
+BIGGER_INFRARED, BIGGER_ONE_PASS, BIGGER_SECOND_PASS = range(28, 31)
+BIGGER_FILTERED_INFRARED, BIGGER_FILTERED_ONE_PASS, BIGGER_FILTERED_SECOND_PASS, BIGGER_TEMPERATURES = range(31, 35)
+
+# Of each sensor the kinds of a load, a camera and a frame, those of the calls on a frame, and where the camera begins in a load's answer
+Sensor = collections.namedtuple("Sensor", "load camera frame calls camera_at")
+MLX90641 = Sensor(LOAD, CAMERA, FRAME, range(INFRARED, TEMPERATURES + 1), 32)
+MLX90640 = Sensor(BIGGER_LOAD, BIGGER_CAMERA, BIGGER_FRAME, range(BIGGER_INFRARED, BIGGER_TEMPERATURES + 1), 24)
+SENSORS = MLX90641, MLX90640
 HEAD = ">HHII"
 
 # What an entry has before, and a table of numbers
@@ -103,7 +112,7 @@ def loaded(load):
 # ---- Writing
 
 class Stream:
-    """Cases one after another. One that has been is not written again; nor is a camera or a frame that stands."""
+    """Cases one after another. One that has been is not written again; nor is a camera or a frame that stands. Of each sensor one of both stands."""
 
     def __init__(self):
         self.cases = []
@@ -111,14 +120,14 @@ class Stream:
         self.names = set()
         self.written = set()
         self.repeated = collections.Counter()
-        self.camera = self.frame = None
+        self.standing = {sensor: (None, None) for sensor in SENSORS}
 
     def put(self, kind, name, given, answer):
         assert name.isascii() and len(name) <= 256 and len(given) <= 65536 and len(answer) <= 65536
         self.cases.append(struct.pack(HEAD, kind, len(name), len(given), len(answer)) + name.encode() + given + answer)
 
     def case(self, kind, name, given, answer):
-        stands = (self.camera, self.frame) if kind in ON_A_FRAME else ()
+        stands = next((self.standing[sensor] for sensor in SENSORS if kind in sensor.calls), ())
         if (kind, given, *stands) in self.written:
             self.repeated[kind] += 1
             return
@@ -127,17 +136,18 @@ class Stream:
         self.names.add((kind, name))
         self.counts[kind] += 1
         self.put(kind, name, given, answer)
-        if kind == LOAD:
-            self.camera, self.frame = answer[32:], None
+        for sensor in SENSORS:
+            if kind == sensor.load:
+                self.standing[sensor] = answer[sensor.camera_at:], None
 
-    def stand(self, name, camera, frame):
+    def stand(self, sensor, name, camera, frame):
         """The camera and the frame of the calls that follow."""
-        if camera != self.camera:
-            self.put(CAMERA, name, camera, b"")
-            self.camera, self.frame = camera, None
-        if frame != self.frame:
-            self.put(FRAME, name, frame, b"")
-            self.frame = frame
+        if camera != self.standing[sensor][0]:
+            self.put(sensor.camera, name, camera, b"")
+            self.standing[sensor] = camera, None
+        if frame != self.standing[sensor][1]:
+            self.put(sensor.frame, name, frame, b"")
+            self.standing[sensor] = camera, frame
 
     def bytes(self):
         return b"".join(self.cases)

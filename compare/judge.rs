@@ -3,7 +3,6 @@
 //! Any not-a-number of the crate's equals the library's, which must have the bits 0x7FC00000. What stops a call is worked out here
 //! afresh from document 01, or the MLX90640's paper, and set beside the crate's errors and panics. The exit status is 0 if nothing disagreed.
 mod bigger;
-mod border640;
 mod cards;
 mod cards640;
 mod document;

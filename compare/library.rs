@@ -4,7 +4,7 @@ use std::sync::OnceLock;
 
 #[path = "../bindings/rust/src/border.rs"]
 pub mod border;
-use border::{Average, Camera, Filtered, Input, Pixels, Settings};
+use border::{Average, Filtered, Input, Settings, Told};
 pub use border::{AccessPattern, Answer, Load, Load640, Part, PixelEntry, Ram, Record, Record640, SixTen, Word};
 
 /// The five tables of a card.
@@ -75,7 +75,7 @@ pub fn encode(data: u16) -> Word {
 pub fn check(word: u16) -> Word {
     let mut answer = border::check(word);
     if planted("check-0003-passes") && word == 3 {
-        answer = Word { number: 0, place: 0, value: 0, word: 3, mended: 0, bit: 0 };
+        answer = Word { told: Told { number: 0, place: 0, value: 0 }, word: 3, mended: 0, bit: 0 };
     }
     if planted("bit-as-a-mask") && answer.mended == 1 {
         answer.bit = (1u32 << answer.bit) as u8;
@@ -84,7 +84,7 @@ pub fn check(word: u16) -> Word {
 }
 
 pub fn word_6_10_split(word: u16) -> SixTen {
-    let mut split = border::word_6_10_split(word);
+    let mut split = border::mlx90640_word_6_10_split(word);
     if planted("bigger-six-of-five-bits") && split.six == -32 {
         split.six = 0;
     }
@@ -92,7 +92,7 @@ pub fn word_6_10_split(word: u16) -> SixTen {
 }
 
 pub fn word_to_u4s(word: u16) -> [u8; 4] {
-    let mut nibbles = border::word_to_u4s(word);
+    let mut nibbles = border::mlx90640_word_to_u4s(word).nibbles;
     if planted("bigger-u4s-exchanged") && word == 0x0010 {
         nibbles.swap(2, 3);
     }
@@ -100,7 +100,7 @@ pub fn word_to_u4s(word: u16) -> [u8; 4] {
 }
 
 pub fn word_to_i4s(word: u16) -> [i8; 4] {
-    let mut nibbles = border::word_to_i4s(word);
+    let mut nibbles = border::mlx90640_word_to_i4s(word).nibbles;
     if planted("bigger-i4-unsigned") && word == 0x0008 {
         nibbles[3] = 8;
     }
@@ -108,7 +108,7 @@ pub fn word_to_i4s(word: u16) -> [i8; 4] {
 }
 
 pub fn access_pattern(word: u16) -> AccessPattern {
-    let mut access = border::access_pattern(word);
+    let mut access = border::mlx90640_access_pattern(word);
     if planted("bigger-zero-not-negated") && access.pattern[2] == 0.0 {
         access.pattern[2] = 0.0;
     }
@@ -119,18 +119,18 @@ pub fn access_pattern(word: u16) -> AccessPattern {
 }
 
 pub fn interleave_entry(pixel: usize) -> PixelEntry {
-    let mut entry = border::interleave_entry(pixel);
+    let mut entry = border::mlx90640_interleave_entry(pixel);
     if planted("bigger-interleave-by-pixel") && entry.number == 0 {
         entry.entry = entry.entry % 3 + pixel % 2 * 3;
     }
     if planted("bigger-interleave-takes-768") && pixel == 768 {
-        entry = PixelEntry { number: 0, place: 0, value: 0, entry: 0 };
+        entry = PixelEntry { told: Told { number: 0, place: 0, value: 0 }, entry: 0 };
     }
     entry
 }
 
 pub fn chessboard_entry(pixel: usize) -> PixelEntry {
-    let mut entry = border::chessboard_entry(pixel);
+    let mut entry = border::mlx90640_chessboard_entry(pixel);
     if planted("bigger-chessboard-exchanged") && entry.number == 0 {
         entry.entry = [0, 2, 1, 3][entry.entry];
     }
@@ -288,7 +288,7 @@ pub fn alpha_row(image: &[u8], row: usize) -> Part {
 }
 
 pub fn subpage_offsets(zero: &[i32], one: &[i32], subpage: u8) -> Part {
-    border::subpage_offsets([zero, one], subpage)
+    border::subpage_offsets(zero, one, subpage)
 }
 
 /// The crate's basic range.
@@ -296,7 +296,7 @@ pub const BASIC: usize = 2;
 
 pub fn load(image: &[u8], basic: usize, tables: &mut Tables) -> Load {
     let [zero, one] = &mut tables.offsets;
-    let mut answer = border::load(image, basic, [zero, one], &mut tables.alpha, &mut tables.k_v, &mut tables.k_ta);
+    let mut answer = border::load(image, basic, zero, one, &mut tables.alpha, &mut tables.k_v, &mut tables.k_ta);
     if planted("alpha-last-place") && answer.number == 0 {
         tables.alpha[17] = f32::from_bits(tables.alpha[17].to_bits() ^ 1);
     }
@@ -341,9 +341,19 @@ pub fn load(image: &[u8], basic: usize, tables: &mut Tables) -> Load {
     answer
 }
 
-fn camera(f: &Frame) -> Camera<'_> {
+type Infrared<I> = fn(Record, I, &[i32], &[i32], &[f32], &[f32], &[u8], &[u8], &mut [u32]) -> Answer;
+type Pass<I> = fn(Record, I, &[i32], &[i32], &[f32], &[f32], &[f32], &[u8], &[u8], &mut [u32]) -> Answer;
+
+// A call from pixels to infrared numbers, with the frame's tables.
+fn infrared<I>(call: Infrared<I>, f: &Frame, input: I, destination: &mut [u32]) -> Answer {
     let [zero, one] = &f.tables.offsets;
-    Camera { record: f.record, offsets: [zero, one], alpha: &f.tables.alpha, k_v: &f.tables.k_v, k_ta: &f.tables.k_ta }
+    call(f.record, input, zero, one, &f.tables.k_v, &f.tables.k_ta, &f.pixels, &f.mask, destination)
+}
+
+// One from pixels to temperatures.
+fn pass<I>(call: Pass<I>, f: &Frame, input: I, destination: &mut [u32]) -> Answer {
+    let [zero, one] = &f.tables.offsets;
+    call(f.record, input, zero, one, &f.tables.alpha, &f.tables.k_v, &f.tables.k_ta, &f.pixels, &f.mask, destination)
 }
 
 // What is not looked at is not a number: the self-heating where a reflected temperature is given, and that where it is not.
@@ -368,16 +378,12 @@ fn filtered(f: &Frame, average: Option<f32>) -> Filtered {
     Filtered { input: input(f), compensation }
 }
 
-fn pixels(f: &Frame) -> Pixels<'_> {
-    Pixels { pixels: &f.pixels, mask: &f.mask }
-}
-
 pub fn raw_pixels_to_ir_data(f: &Frame, destination: &mut [u32]) -> Answer {
-    let mut answer = border::raw_pixels_to_ir_data(&camera(f), input(f), pixels(f), destination);
+    let mut answer = infrared(border::raw_pixels_to_ir_data, f, input(f), destination);
     if planted("large-offset-cut") && f.tables.offsets.iter().flatten().any(|offset| offset.unsigned_abs() > 1 << 24) {
         let mut cut = f.clone();
         cut.tables.offsets.iter_mut().flatten().for_each(|offset| *offset = *offset / 256 * 256);
-        answer = border::raw_pixels_to_ir_data(&camera(&cut), input(&cut), pixels(&cut), destination);
+        answer = infrared(border::raw_pixels_to_ir_data, &cut, input(&cut), destination);
     }
     if planted("t-a-last-place") && answer.number == 0 {
         answer.t_a ^= 1;
@@ -395,7 +401,7 @@ pub fn raw_pixels_to_ir_data(f: &Frame, destination: &mut [u32]) -> Answer {
 
 pub fn raw_ir_to_temperatures(f: &Frame, t_a: f32, destination: &mut [u32]) -> Answer {
     let first = destination.first().copied();
-    let mut answer = border::raw_ir_to_temperatures(&camera(f), settings(f), t_a, &f.mask, destination);
+    let mut answer = border::raw_ir_to_temperatures(f.record, settings(f), t_a, &f.tables.alpha, &f.mask, destination);
     if planted("range-place") && answer.number == 6 {
         answer.place %= 1 << 32;
     }
@@ -407,7 +413,7 @@ pub fn raw_ir_to_temperatures(f: &Frame, t_a: f32, destination: &mut [u32]) -> A
 
 pub fn raw_pixels_to_temperatures(f: &Frame, destination: &mut [u32]) -> Answer {
     let before = destination.last().copied();
-    let mut answer = border::raw_pixels_to_temperatures(&camera(f), input(f), pixels(f), destination);
+    let mut answer = pass(border::raw_pixels_to_temperatures, f, input(f), destination);
     if planted("temperature-last-place") && answer.number == 0 && destination.len() > 100 {
         destination[100] ^= 1;
     }
@@ -422,18 +428,18 @@ pub fn raw_pixels_to_temperatures(f: &Frame, destination: &mut [u32]) -> Answer 
 
 pub fn filtered_pixels_to_ir_data(f: &Frame, average: Option<f32>, destination: &mut [u32]) -> Answer {
     let given = if planted("filtered-infrared-raw") { None } else { average };
-    border::filtered_pixels_to_ir_data(&camera(f), filtered(f, given), pixels(f), destination)
+    infrared(border::filtered_pixels_to_ir_data, f, filtered(f, given), destination)
 }
 
 pub fn filtered_pixels_to_temperatures(f: &Frame, average: Option<f32>, destination: &mut [u32]) -> Answer {
     let given = if planted("filtered-not-yet-is-0") { Some(average.unwrap_or(0.0)) } else { average };
-    border::filtered_pixels_to_temperatures(&camera(f), filtered(f, given), pixels(f), destination)
+    pass(border::filtered_pixels_to_temperatures, f, filtered(f, given), destination)
 }
 
 pub fn raw_pixels_to_ranged_temperatures(f: &Frame, destination: &mut [u32]) -> Answer {
-    let mut answer = border::raw_pixels_to_ranged_temperatures(&camera(f), input(f), pixels(f), destination);
+    let mut answer = pass(border::raw_pixels_to_ranged_temperatures, f, input(f), destination);
     if planted("second-pass-is-the-first") && answer.number == 0 {
-        answer = border::raw_pixels_to_temperatures(&camera(f), input(f), pixels(f), destination);
+        answer = pass(border::raw_pixels_to_temperatures, f, input(f), destination);
     }
     if planted("corners-one-lower") && answer.number == 12 {
         answer.place -= 1;
@@ -443,7 +449,7 @@ pub fn raw_pixels_to_ranged_temperatures(f: &Frame, destination: &mut [u32]) -> 
 
 pub fn filtered_pixels_to_ranged_temperatures(f: &Frame, average: Option<f32>, destination: &mut [u32]) -> Answer {
     let given = if planted("filtered-second-pass-raw") { None } else { average };
-    let mut answer = border::filtered_pixels_to_ranged_temperatures(&camera(f), filtered(f, given), pixels(f), destination);
+    let mut answer = pass(border::filtered_pixels_to_ranged_temperatures, f, filtered(f, given), destination);
     if planted("filtered-second-pass-is-the-first") && answer.number == 0 {
         answer = filtered_pixels_to_temperatures(f, average, destination);
     }

@@ -1,7 +1,6 @@
 //! The library's mask and frame calls of the MLX90640. A name in `PLANTED` spoils what goes into a call or what comes out of it, as a slip of its would.
-use crate::border640::{self as border, Camera640, Filtered640, Input640};
-use crate::library::border::{Average, Outcome, Settings};
-use crate::library::{planted, Answer, Ram, Record640, Tables640};
+use crate::library::border::{self, Average, Filtered640, Input640, Outcome, Settings};
+use crate::library::{any_planted, planted, Answer, Ram, Record640, Tables640};
 
 /// What a frame is computed from: the card's image, its record and tables, perhaps changed, and the rest. `heat` is an index into HEATS. `own` says that the
 /// crate's own camera and calibration types can have this frame.
@@ -77,19 +76,15 @@ fn slipped(f: &Frame640) -> (Record640, u8, u8) {
     (r, subpage, pattern)
 }
 
-fn camera(f: &Frame640, record: Record640) -> Camera640<'_> {
-    Camera640 { record, offsets: &f.tables.offsets, alpha: &f.tables.alpha, k_ta: &f.tables.k_ta }
-}
-
-fn taken(f: &Frame640) -> (Camera640<'_>, Input640) {
+fn input(f: &Frame640) -> (Record640, Input640) {
     let (record, subpage, pattern) = slipped(f);
-    (camera(f, record), Input640 { settings: settings(f), ram: f.ram, subpage, pattern })
+    (record, Input640 { settings: settings(f), ram: f.ram, subpage, pattern })
 }
 
-fn filtered(f: &Frame640, average: Option<f32>) -> (Camera640<'_>, Filtered640) {
-    let (camera, input) = taken(f);
+fn filtered(f: &Frame640, average: Option<f32>) -> (Record640, Filtered640) {
+    let (record, input) = input(f);
     let compensation = Average { average: average.unwrap_or(f32::NAN), ready: average.is_some().into() };
-    (camera, Filtered640 { input, compensation })
+    (record, Filtered640 { input, compensation })
 }
 
 // What comes out of any frame call, with one of these slips.
@@ -116,7 +111,7 @@ fn spoil(before: Vec<u32>, answer: &mut Answer, destination: &mut [u32]) {
 
 // A call, and what a slip leaves of it.
 fn called(destination: &mut [u32], call: impl FnOnce(&mut [u32]) -> Answer) -> Answer {
-    if !crate::library::any_planted() {
+    if !any_planted() {
         return call(destination);
     }
     let before = destination.to_vec();
@@ -125,9 +120,23 @@ fn called(destination: &mut [u32], call: impl FnOnce(&mut [u32]) -> Answer) -> A
     answer
 }
 
+type Infrared<I> = fn(Record640, I, &[i32], &[f32], &[u8], &[u8], &mut [u32]) -> Answer;
+type Pass<I> = fn(Record640, I, &[i32], &[f32], &[f32], &[u8], &[u8], &mut [u32]) -> Answer;
+
+// A call from pixels to infrared numbers, with the frame's tables.
+fn infrared<I>(call: Infrared<I>, f: &Frame640, (record, input): (Record640, I), destination: &mut [u32]) -> Answer {
+    called(destination, |to| call(record, input, &f.tables.offsets, &f.tables.k_ta, &f.pixels, &f.mask, to))
+}
+
+// One from pixels to temperatures.
+fn pass<I>(call: Pass<I>, f: &Frame640, (record, input): (Record640, I), destination: &mut [u32]) -> Answer {
+    let t = &f.tables;
+    called(destination, |to| call(record, input, &t.offsets, &t.alpha, &t.k_ta, &f.pixels, &f.mask, to))
+}
+
 pub fn subpage_mask(subpage: u8, pattern: u8, mask: &mut [u8]) -> Outcome {
     let subpage = if planted("bigger-mask-of-the-other-subpage") { u8::from(subpage == 0) } else { subpage };
-    let mut outcome = border::subpage_mask(subpage, pattern, mask);
+    let mut outcome = border::mlx90640_subpage_mask(subpage, pattern, mask);
     if planted("bigger-mask-takes-767") && mask.len() == 767 {
         outcome.number = 0;
     }
@@ -138,26 +147,23 @@ pub fn subpage_mask(subpage: u8, pattern: u8, mask: &mut [u8]) -> Outcome {
 }
 
 pub fn raw_pixels_to_ir_data(f: &Frame640, destination: &mut [u32]) -> Answer {
-    let (camera, input) = taken(f);
-    called(destination, |to| border::raw_pixels_to_ir_data(&camera, input, &f.pixels, &f.mask, to))
+    infrared(border::mlx90640_raw_pixels_to_ir_data, f, input(f), destination)
 }
 
 pub fn raw_ir_to_temperatures(f: &Frame640, t_a: f32, destination: &mut [u32]) -> Answer {
     let (record, _, _) = slipped(f);
     let subpage = if planted("bigger-frame-temperatures-of-subpage-0") { 0 } else { f.subpage };
-    called(destination, |to| border::raw_ir_to_temperatures(&camera(f, record), settings(f), subpage, t_a, &f.mask, to))
+    called(destination, |to| border::mlx90640_raw_ir_to_temperatures(record, settings(f), subpage, t_a, &f.tables.alpha, &f.mask, to))
 }
 
 pub fn raw_pixels_to_temperatures(f: &Frame640, destination: &mut [u32]) -> Answer {
-    let (camera, input) = taken(f);
-    called(destination, |to| border::raw_pixels_to_temperatures(&camera, input, &f.pixels, &f.mask, to))
+    pass(border::mlx90640_raw_pixels_to_temperatures, f, input(f), destination)
 }
 
 pub fn raw_pixels_to_ranged_temperatures(f: &Frame640, destination: &mut [u32]) -> Answer {
-    let (camera, input) = taken(f);
-    let mut answer = called(destination, |to| border::raw_pixels_to_ranged_temperatures(&camera, input, &f.pixels, &f.mask, to));
+    let mut answer = pass(border::mlx90640_raw_pixels_to_ranged_temperatures, f, input(f), destination);
     if planted("bigger-frame-second-pass-is-the-first") && answer.number == 0 {
-        answer = border::raw_pixels_to_temperatures(&camera, input, &f.pixels, &f.mask, destination);
+        answer = raw_pixels_to_temperatures(f, destination);
     }
     if planted("bigger-frame-twelve-at-the-next") && answer.number == 12 {
         answer.place += 1;
@@ -167,18 +173,15 @@ pub fn raw_pixels_to_ranged_temperatures(f: &Frame640, destination: &mut [u32]) 
 
 pub fn filtered_pixels_to_ir_data(f: &Frame640, average: Option<f32>, destination: &mut [u32]) -> Answer {
     let given = if planted("bigger-frame-filtered-infrared-raw") { None } else { average };
-    let (camera, filtered) = filtered(f, given);
-    called(destination, |to| border::filtered_pixels_to_ir_data(&camera, filtered, &f.pixels, &f.mask, to))
+    infrared(border::mlx90640_filtered_pixels_to_ir_data, f, filtered(f, given), destination)
 }
 
 pub fn filtered_pixels_to_temperatures(f: &Frame640, average: Option<f32>, destination: &mut [u32]) -> Answer {
     let given = if planted("bigger-frame-filtered-not-yet-is-0") { Some(average.unwrap_or(0.0)) } else { average };
-    let (camera, filtered) = filtered(f, given);
-    called(destination, |to| border::filtered_pixels_to_temperatures(&camera, filtered, &f.pixels, &f.mask, to))
+    pass(border::mlx90640_filtered_pixels_to_temperatures, f, filtered(f, given), destination)
 }
 
 pub fn filtered_pixels_to_ranged_temperatures(f: &Frame640, average: Option<f32>, destination: &mut [u32]) -> Answer {
     let given = if planted("bigger-frame-filtered-average-whole") { average.map(f32::trunc) } else { average };
-    let (camera, filtered) = filtered(f, given);
-    called(destination, |to| border::filtered_pixels_to_ranged_temperatures(&camera, filtered, &f.pixels, &f.mask, to))
+    pass(border::mlx90640_filtered_pixels_to_ranged_temperatures, f, filtered(f, given), destination)
 }

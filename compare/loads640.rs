@@ -55,8 +55,8 @@ struct Patterns {
 
 impl Patterns {
     fn new() -> Self {
-        let chessboard = (0..PIXELS).map(|pixel| border::chessboard_entry(pixel).entry).collect();
-        Patterns { chessboard, interleave: (0..PIXELS).map(|pixel| border::interleave_entry(pixel).entry).collect() }
+        let chessboard = (0..PIXELS).map(|pixel| border::mlx90640_chessboard_entry(pixel).entry).collect();
+        Patterns { chessboard, interleave: (0..PIXELS).map(|pixel| border::mlx90640_interleave_entry(pixel).entry).collect() }
     }
 
     // What is a list of entries here and a number for each pixel in the crate, in both subpages and patterns.

@@ -4,7 +4,8 @@
 //! what stops a call, which must fit what the crate does there; what was mended; range coefficient 0; a card's offsets where the crate's average is
 //! not the papers' or its 16 bits don't hold them ("papers judge" in the case's name); and the second pass ("by document"). Where the crate doesn't
 //! answer, the name says what it does. The library is not linked: of library.rs only the types are used here. Of the MLX90640's cards cards640.rs has
-//! what stops a load, and range coefficients from other basic ranges than the crate's ("by document"); all else is the crate's own.
+//! what stops a load, and range coefficients from other basic ranges than the crate's ("by document"); all else is the crate's own. sample640.rs has its
+//! frames.
 #[allow(dead_code)]
 mod cards;
 mod cards640;
@@ -15,6 +16,7 @@ mod frames;
 #[allow(dead_code)]
 mod library;
 mod numbers;
+mod sample640;
 #[allow(dead_code)]
 mod tally;
 
@@ -57,6 +59,13 @@ const FILTERED_ONE_PASS: Kind = (18, "filtered one pass");
 const FILTERED_SECOND_PASS: Kind = (19, "filtered second pass");
 const TEMPERATURES: Kind = (20, "temperatures");
 const BIGGER_LOAD: Kind = (24, "MLX90640 load");
+const BIGGER_MASK: Kind = (25, "MLX90640 mask");
+const BIGGER_CAMERA: Kind = (26, "MLX90640 camera");
+const BIGGER_FRAME: Kind = (27, "MLX90640 frame");
+const BIGGER_PLAIN: [Kind; 3] = [(28, "MLX90640 infrared"), (29, "MLX90640 one pass"), (30, "MLX90640 second pass")];
+const BIGGER_FILTERED: [Kind; 3] =
+    [(31, "MLX90640 filtered infrared"), (32, "MLX90640 filtered one pass"), (33, "MLX90640 filtered second pass")];
+const BIGGER_TEMPERATURES: Kind = (34, "MLX90640 temperatures");
 
 /// The stream so far, how many answers it has of each kind, and the record and tables that the next frame would lean on.
 struct Stream {
@@ -105,6 +114,10 @@ fn u32s(list: impl IntoIterator<Item = u32>) -> Vec<u8> {
     list.into_iter().flat_map(u32::to_be_bytes).collect()
 }
 
+fn f32s(list: impl IntoIterator<Item = f32>) -> Vec<u8> {
+    u32s(list.into_iter().map(f32::to_bits))
+}
+
 fn told(verdict: Verdict) -> Vec<u8> {
     [verdict.0, verdict.1, verdict.2].into_iter().flat_map(u64::to_be_bytes).collect()
 }
@@ -142,8 +155,8 @@ fn put(camera: &mut [u32], r: &Record, t: &Tables) {
 }
 
 // What lies past the part that is lent must stay too.
-fn destination_bytes(lent: &[u32]) -> Vec<u8> {
-    u32s(lent.iter().copied().chain((lent.len()..ENTRIES).map(|k| 0x7FB0_0000 + k as u32)))
+fn destination_bytes(lent: &[u32], entries: usize) -> Vec<u8> {
+    u32s(lent.iter().copied().chain((lent.len()..entries).map(|k| 0x7FB0_0000 + k as u32)))
 }
 
 // ---- Words
@@ -331,8 +344,19 @@ fn made_card(s: &mut Stream, k: u64) {
 
 // ---- Frames
 
+/// What a call is asked for: a mask, over so many pixels, and how many entries a destination has in the stream.
+struct Asked<'a> {
+    mask: &'a [u8],
+    pixels: usize,
+    entries: usize,
+}
+
+fn asked(f: &Frame) -> Asked<'_> {
+    Asked { mask: &f.mask, pixels: 192, entries: ENTRIES }
+}
+
 // A call on a frame: its case, from its verdict and from what the crate said. Where it isn't refused, t_a and the destination are handed back.
-fn call(s: &mut Stream, kind: Kind, name: &str, input: &[u8], f: &Frame, verdict: Verdict, before: &[u32], said: Said) -> Option<(u32, Vec<u32>)> {
+fn call(s: &mut Stream, kind: Kind, name: &str, input: &[u8], asked: &Asked, verdict: Verdict, before: &[u32], said: Said) -> Option<(u32, Vec<u32>)> {
     let did = if said.is_some() { "crate goes on" } else { "crate panics" };
     s.tally.count(&format!("{}, verdict {}, {did}", kind.1, verdict.0));
     assert!(!matches!(verdict.0, 6 | 7) || said.is_none(), "{name}: refusal {verdict:?}, the crate goes on");
@@ -342,7 +366,7 @@ fn call(s: &mut Stream, kind: Kind, name: &str, input: &[u8], f: &Frame, verdict
         let (ambient, pixels) = said.expect("the crate goes on where there is no refusal");
         t_a = bits(ambient);
         for (i, pixel) in pixels.iter().enumerate() {
-            if i < 192 && f.mask[i] != 0 {
+            if i < asked.pixels && asked.mask[i] != 0 {
                 after[i] = bits(*pixel);
                 lost += u32::from(pixel.is_nan());
                 s.tally.count(&format!("{}, pixels {}", kind.1, kind_of(*pixel)));
@@ -352,7 +376,7 @@ fn call(s: &mut Stream, kind: Kind, name: &str, input: &[u8], f: &Frame, verdict
             }
         }
     }
-    s.case(kind, &name, input, &[told(verdict), u32s([t_a, lost]), destination_bytes(&after)].concat());
+    s.case(kind, &name, input, &[told(verdict), u32s([t_a, lost]), destination_bytes(&after, asked.entries)].concat());
     (verdict.0 == 0).then_some((t_a, after))
 }
 
@@ -379,7 +403,7 @@ fn frame_bytes(f: &Frame, before: &[u32]) -> Vec<u8> {
         u16s(lent.map(|x| x as u16)),
         padded(&f.pixels, PIXELS),
         padded(&f.mask, ENTRIES),
-        destination_bytes(before),
+        destination_bytes(before, ENTRIES),
     ];
     parts.concat()
 }
@@ -399,7 +423,7 @@ fn frame(s: &mut Stream, name: &str, mut f: Frame, mut before: Vec<u32>, given: 
     s.count("frames", name);
 
     let said = of_call(&before, |destination| published::raw_pixels_to_ir_data(&f, destination));
-    let infrared = call(s, INFRARED, name, &[], &f, document::infrared(&f, before.len()), &before, said);
+    let infrared = call(s, INFRARED, name, &[], &asked(&f), document::infrared(&f, before.len()), &before, said);
 
     let (from, t_a) = match (given, infrared) {
         (Some(t_a), _) => (before.clone(), t_a),
@@ -408,13 +432,13 @@ fn frame(s: &mut Stream, name: &str, mut f: Frame, mut before: Vec<u32>, given: 
     };
     let mut input = u32s([t_a.to_bits()]);
     if from != before {
-        input.extend(destination_bytes(&from));
+        input.extend(destination_bytes(&from, ENTRIES));
     }
     let said = of_call(&from, |destination| rooted::raw_ir_to_temperatures(&f, t_a, destination));
-    call(s, TEMPERATURES, name, &input, &f, document::temperature(&f, from.len()), &from, said);
+    call(s, TEMPERATURES, name, &input, &asked(&f), document::temperature(&f, from.len()), &from, said);
 
     let said = of_call(&before, |destination| rooted::raw_pixels_to_temperatures(&f, destination));
-    call(s, ONE_PASS, name, &[], &f, document::one_pass(&f, before.len()), &before, said);
+    call(s, ONE_PASS, name, &[], &asked(&f), document::one_pass(&f, before.len()), &before, said);
 
     // Of every third frame that the second pass takes, and of every twelfth of each refusal.
     let number = document::ranged(&f, before.len()).0;
@@ -434,13 +458,13 @@ fn calls_of_our_own(s: &mut Stream, name: &str, f: &Frame, before: &[u32]) {
     let length = before.len();
 
     let said = by_ranges(&mut s.tally, f, before);
-    call(s, SECOND_PASS, &format!("{name}, by document"), &[], f, document::ranged(f, length), before, said);
+    call(s, SECOND_PASS, &format!("{name}, by document"), &[], &asked(f), document::ranged(f, length), before, said);
     let said = of_call(before, |destination| published::raw_pixels_to_ir_data(&steady, destination));
-    call(s, FILTERED_INFRARED, &filtered, &input, f, document::infrared(f, length), before, said);
+    call(s, FILTERED_INFRARED, &filtered, &input, &asked(f), document::infrared(f, length), before, said);
     let said = of_call(before, |destination| rooted::raw_pixels_to_temperatures(&steady, destination));
-    call(s, FILTERED_ONE_PASS, &filtered, &input, f, document::one_pass(f, length), before, said);
+    call(s, FILTERED_ONE_PASS, &filtered, &input, &asked(f), document::one_pass(f, length), before, said);
     let said = by_ranges(&mut s.tally, &steady, before);
-    call(s, FILTERED_SECOND_PASS, &format!("{filtered}, by document"), &input, f, document::ranged(f, length), before, said);
+    call(s, FILTERED_SECOND_PASS, &format!("{filtered}, by document"), &input, &asked(f), document::ranged(f, length), before, said);
 }
 
 // A frame of a room, on a card as it loads.
@@ -642,7 +666,8 @@ fn on_cards(s: &mut Stream, n: &mut Numbers) {
 
 const BIGGER_FULL: [usize; 3] = [cards640::PIXELS; 3];
 
-fn bigger_card(s: &mut Stream, name: &str, image: &[u8], lengths: [usize; 3], basic: usize) {
+// The verdict, what the crate does, the name, and record and tables as the answer has them.
+fn bigger_answer(name: &str, image: &[u8], lengths: [usize; 3], basic: usize) -> (Verdict, &'static str, String, Vec<u32>) {
     let verdict = cards640::verdict(image, basic, lengths.into_iter().min().unwrap_or(0));
     let (did, answer) = cards640::ask(image);
     let mut record = vec![0; 40];
@@ -660,8 +685,13 @@ fn bigger_card(s: &mut Stream, name: &str, image: &[u8], lengths: [usize; 3], ba
     } else if !matches!(verdict.0, 2 | 6) {
         label += &format!(", {did}");
     }
+    (verdict, did, label, [record, tables.concat()].concat())
+}
+
+fn bigger_card(s: &mut Stream, name: &str, image: &[u8], lengths: [usize; 3], basic: usize) {
+    let (verdict, did, label, numbers) = bigger_answer(name, image, lengths, basic);
     let input = [(basic as u64).to_be_bytes().to_vec(), u16s(lengths.map(|x| x as u16)), image.to_vec()].concat();
-    s.case(BIGGER_LOAD, &label, &input, &[told(verdict), u32s(record), u32s(tables.concat())].concat());
+    s.case(BIGGER_LOAD, &label, &input, &[told(verdict), u32s(numbers)].concat());
     s.count("MLX90640 cards", name);
     s.tally.count(&format!("MLX90640 cards, verdict {}, {did}", verdict.0));
 }
@@ -757,6 +787,7 @@ fn main() {
     bigger_lengths(&mut s, &mut n);
     bigger_edges(&mut s);
     bigger_made(&mut s, &mut n);
+    sample640::cases(&mut s);
     let mut lines: String = s.answers.iter().map(|((_, kind), n)| format!("{kind}\t{n}\tagree\t{n}\n")).collect();
     lines += "first disagreement\tnone\n";
     std::fs::write(format!("{folder}/stdin"), &s.bytes).expect("stdin written");

@@ -1,13 +1,13 @@
 //! Nanoseconds a frame, a card and a word: the crate as published, the rooted one and the library, over cards/ and a room's pixels.
 //! All three take turns, so that a busy machine slows them alike; each figure is the least of many rounds, and a round times each of them for less
 //! than half a millisecond, since longer times have the scheduler's other work in them. What they answer is compared first.
-mod border640;
 #[allow(dead_code)]
 mod cards640;
 #[allow(dead_code)]
 mod document;
 #[allow(dead_code)]
 mod library;
+#[allow(dead_code)]
 mod library640;
 #[allow(dead_code)]
 mod numbers;
@@ -258,7 +258,7 @@ fn in_pieces(kept: &mut [u8; 1664], tables: &mut Tables) -> library::Load {
     for piece in IMAGE.chunks(64) {
         let [zero, one] = &mut tables.offsets;
         let (alpha, k_v, k_ta) = (&mut tables.alpha, &mut tables.k_v, &mut tables.k_ta);
-        reader = border::reader_take(kept, reader, black_box(piece), library::BASIC, [zero, one], alpha, k_v, k_ta).reader;
+        reader = border::reader_take(kept, reader, black_box(piece), library::BASIC, zero, one, alpha, k_v, k_ta).reader;
     }
     reader.answer
 }

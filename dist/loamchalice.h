@@ -1,5 +1,7 @@
-/* Loamchalice for C: a chip card of the MLX90641 to a calibration, and its frames to infrared numbers and temperatures; and parts of the
- * MLX90640's card, at the end.
+/* Loamchalice for C: a chip card of the MLX90641 or the MLX90640 to a calibration, and its frames to infrared numbers and temperatures.
+ *
+ * What has `mlx90640` in its name is for that camera; what has neither camera's name is for the MLX90641, or for both (the settings, the RAM words, answers
+ * and filters).
  *
  * A slice is a pointer and a count of entries; with a count of 0 any pointer will do, NULL too. Nothing is kept between calls, and there is
  * no heap. The only misuse that leads anywhere undefined is a wrong pointer or count, or two slices that overlap where one is written.
@@ -7,40 +9,48 @@
  * The calls assume the default floating-point environment: round to nearest, ties to even, no flush to zero. In another one numbers change without a
  * word. loamchalice_environment_is_default tells: call it at start. (A program linked with -ffast-math may begin with flush to zero.)
  *
- * Each answer has `number`, `place` and `value`: all 0, or the refusal that stopped the call before it wrote anything; the reader's array alone keeps the
- * bytes of the piece.
+ * Each answer begins with `told`, a number, a place and a value: all 0, or the refusal that stopped the call before it wrote anything; the reader's array
+ * alone keeps the bytes of the piece. loamchalice_refusal_text has words for a number.
  *   1  the image is below 1,664 bytes                        place: its length
  *      a list to write has another length than 814, or 18    place: its length
- *   2  a table that the call takes has fewer than 192 entries
+ *   2  a table that the call takes has fewer than 192 entries, of the MLX90640 768
  *      what is lent for a card or its words is too short
  *   3  a chip word is damaged                                place: the word's number, value: its bits
  *   4  the offset scale is 21 or more                        place: the scale
- *   6  the basic range is above 7                            place: the range
+ *   5  of the MLX90640: a pixel's offset, alpha or K_Ta is   place: the first such pixel
+ *      outside 16 bits (see loamchalice_mlx90640_load)
+ *   6  the basic range is above 7, of the MLX90640 above 3   place: the range
  *   7  v_dd_pixel - V_DD25 is outside 16 bits
  *   8  a divisor is zero, or the emissivity is zero or NaN
  *   9  data to encode is above 2047                          place: the data
  *      an entry of a list to write is above 2047             place: its index, value: the data
  *  10  pixel bytes below 384, destination below 192 or mask  place: its length
- *      below 192; tested after 2 and before 6
+ *      below 192, of the MLX90640 1,536, 768 and 768;
+ *      tested after 2 and before 6
  *  11  the wanted image has another unchecked word           place: the word's number
- *  12  a corner temperature is not above the one before      place: the corner, 1 to 7
+ *  12  a corner temperature is not above the one before      place: the corner, 1 to 7, of the MLX90640 1 to 3
  *      it; of the second pass alone, after 8
  *  13  what a range coefficient is divided by is zero;       place: its range, the nearest below the basic one
- *      never with a basic range of 4 or less
+ *      never with a basic range of 4 or less, nor of the
+ *      MLX90640
  *  14  the MLX90640 has no such pixel: 768 or more           place: the pixel
  *
- * Pixels stand row by row, 16 a row and 12 rows: pixel 16 x row + column, in the pixel bytes, the mask, the tables and the destination. A destination is
- * lent as the bits of floats, uint32_t, since the bits of a NaN can be lost on the way through a float: loamchalice_float makes a number of them. Every
- * NaN that a call writes is 0x7FC00000.
+ * Pixels stand row by row, 16 a row and 12 rows: pixel 16 x row + column, in the pixel bytes, the mask, the tables and the destination (of the MLX90640 32
+ * a row and 24 rows). A destination is lent as the bits of floats, uint32_t, since the bits of a NaN can be lost on the way through a float:
+ * loamchalice_float makes a number of them. Every NaN that a call writes is 0x7FC00000.
  *
  * Units: temperatures are degrees Celsius, supplies volts; what is read from RAM, and infrared numbers, are counts.
  *
  * An emissivity of 0 or NaN is refusal 8. Any other is taken as it is: 95 for 0.95, -1 or infinity give cold, good-looking answers:
  * loamchalice_warning tells.
  *
- * The last part of this file has the same calls with their tables in a struct, loamchalice_camera: begin there. */
+ * The last part of this file has the same calls with their tables in a struct, loamchalice_camera or loamchalice_mlx90640_camera: begin there. */
 #ifndef LOAMCHALICE_H
 #define LOAMCHALICE_H
+
+#if !defined(__LP64__) && !defined(_LP64)
+#error "Loamchalice is for 64-bit x86-64 and Arm processors, with 64-bit pointers and longs"
+#endif
 
 #include <stddef.h>
 #include <stdint.h>
@@ -50,17 +60,32 @@
 extern "C" {
 #endif
 
+/* Of this header, and of the library that it is linked with. */
+#define LOAMCHALICE_VERSION_MAJOR 0
+#define LOAMCHALICE_VERSION_MINOR 3
+#define LOAMCHALICE_VERSION_PATCH 0
+#define LOAMCHALICE_VERSION "0.3.0"
+
 #define LOAMCHALICE_IMAGE_BYTES 1664
 #define LOAMCHALICE_WORDS 832
 #define LOAMCHALICE_CHECKED_WORDS 814
 #define LOAMCHALICE_UNCHECKED_WORDS 18
+#define LOAMCHALICE_WIDTH 16
+#define LOAMCHALICE_HEIGHT 12
 #define LOAMCHALICE_PIXELS 192
 #define LOAMCHALICE_PIXEL_BYTES 384
+#define LOAMCHALICE_RANGES 8
 #define LOAMCHALICE_BASIC_RANGE 2
+#define LOAMCHALICE_SELF_HEATING 5.0f /* degrees */
 #define LOAMCHALICE_NOT_A_NUMBER 0x7FC00000u
 
+/* The first field of each answer: all 0, or the refusal. */
 typedef struct {
     uint64_t number, place, value;
+} loamchalice_told;
+
+typedef struct {
+    loamchalice_told told;
     uint16_t word;       /* the chip word, or its data; 0 after a refusal */
     uint8_t mended, bit; /* 1 and the bit, 0 to 15, where a checked word had that bit flipped; else 0 and 0 */
 } loamchalice_word;
@@ -94,7 +119,7 @@ typedef struct {
 
 /* A card that goes bad tells so: `mended` checked words had a flipped bit, of which `last_mended` is the last. */
 typedef struct {
-    uint64_t number, place, value;
+    loamchalice_told told;
     size_t mended;      /* of 814; 0 after a refusal */
     size_t last_mended; /* its word number; LOAMCHALICE_WORDS if there is none, and after a refusal */
     loamchalice_record calibration;
@@ -125,7 +150,7 @@ typedef struct {
 
 /* The caller's numbers. loamchalice_settings_of makes them from a card. */
 typedef struct {
-    size_t basic_range;          /* 0 to 7: the one that the card was loaded with */
+    size_t basic_range;          /* 0 to 7, of the MLX90640 0 to 3: the one that the card was loaded with */
     float emissivity;            /* of the body that is looked at, above 0 and at most 1 */
     float resolution_correction; /* a ratio: see loamchalice_resolution_correction */
     float v_dd_0;                /* nominal supply, volts */
@@ -142,18 +167,18 @@ typedef struct {
 } loamchalice_input;
 
 typedef struct {
-    uint64_t number, place, value;
+    loamchalice_told told;
     size_t lost;  /* pixels that this call wrote as NaN; 0 after a refusal */
     uint32_t t_a; /* the bits of the ambient temperature, degrees Celsius; 0 after a refusal */
 } loamchalice_answer;
 
 typedef struct {
-    uint64_t number, place, value;
+    loamchalice_told told;
 } loamchalice_outcome;
 
 /* A step of a burn. Look at `reached` and not at whether the card loads: a half-burnt card may load, since zero is a chip word. */
 typedef struct {
-    uint64_t number, place, value;
+    loamchalice_told told;
     size_t word;     /* the step's word; LOAMCHALICE_WORDS where there is no step */
     uint16_t bits;   /* what the word becomes */
     uint8_t reached; /* 1 if the present image is the wanted one: with none left to do, or after the step; else 0 */
@@ -161,7 +186,7 @@ typedef struct {
 
 /* What a scrub did: so many entries at the start of its two lists are word numbers, ascending. */
 typedef struct {
-    uint64_t number, place, value;
+    loamchalice_told told;
     size_t changed, damaged; /* words that were mended, and words that are damaged and stay; 0 after a refusal */
 } loamchalice_scrubbed;
 
@@ -302,8 +327,117 @@ loamchalice_answer loamchalice_filtered_pixels_to_ranged_temperatures(
     const float *alpha, size_t alpha_length, const float *k_v, size_t k_v_length, const float *k_ta, size_t k_ta_length,
     const uint8_t *pixels, size_t pixels_length, const uint8_t *mask, size_t mask_length, uint32_t *destination, size_t destination_length);
 
-/* The MLX90640: 32 by 24 pixels, row by row. Its card is not loaded yet; these are the odd parts of it. */
+/* The MLX90640: 32 by 24 pixels, row by row. Its card has LOAMCHALICE_IMAGE_BYTES too, and no check bits: every word is taken as it stands, and a card of the
+ * other camera may load.
+ *
+ * Each of its subpages has half of the pixels: every other square of a chessboard, or every other row (interleave). So a picture is two calls, each with its
+ * subpage's RAM words and mask, and its own filter. Fill the destination with infinity before each picture, not before each subpage: a pixel that no call
+ * wrote is then too hot. */
+#define LOAMCHALICE_MLX90640_WIDTH 32
+#define LOAMCHALICE_MLX90640_HEIGHT 24
 #define LOAMCHALICE_MLX90640_PIXELS 768
+#define LOAMCHALICE_MLX90640_PIXEL_BYTES 1536
+#define LOAMCHALICE_MLX90640_RANGES 4
+#define LOAMCHALICE_MLX90640_BASIC_RANGE 1
+#define LOAMCHALICE_MLX90640_SELF_HEATING 8.0f /* degrees */
+
+/* The access pattern: bit 12 of the camera's control register. Chess is the default after power-on. */
+#define LOAMCHALICE_MLX90640_INTERLEAVE 0
+#define LOAMCHALICE_MLX90640_CHESS 1
+
+/* Its calibration record, all zero after a refusal. Where has_gradient is 0 there is no gradient, and the coefficient is not looked at. Lists of two are by
+ * the subpage. There is no padding in it, so records can be compared by memcmp. */
+typedef struct {
+    float k_v_ptat;              /* per volt */
+    float k_t_ptat;              /* counts per degree */
+    float v_ptat_25;             /* counts */
+    float alpha_ptat;            /* a ratio */
+    float gain;                  /* counts */
+    float k_s_ta;                /* per degree */
+    float k_v_cp;                /* per volt */
+    float k_ta_cp;               /* per degree */
+    float gradient;              /* a ratio */
+    float access_cp;             /* counts; of the compensation pixel of subpage 1 in interleaved mode */
+    float alpha_cp[2];           /* counts per kelvin to the fourth */
+    float k_s_to[4];             /* per degree */
+    float range_coefficients[4]; /* 1 at the basic range that the card was loaded with */
+    float k_v[4];                /* per volt, by loamchalice_mlx90640_chessboard_entry */
+    float access_pattern[6];     /* counts; of pixels in interleaved mode, by loamchalice_mlx90640_interleave_entry */
+    int16_t corner_temperatures[4]; /* degrees Celsius */
+    int16_t offset_reference_cp[2]; /* counts */
+    int16_t k_v_dd;              /* counts per volt */
+    int16_t v_dd_25;             /* counts */
+    uint8_t resolution;          /* that the card was written at, 0 to 3 */
+    uint8_t has_gradient;
+    uint8_t unused[2];           /* 0; not looked at */
+} loamchalice_mlx90640_record;
+
+typedef struct {
+    loamchalice_told told;
+    loamchalice_mlx90640_record calibration;
+} loamchalice_mlx90640_loaded;
+
+/* Loads a card into three tables of 768 entries or more: offsets in counts, alpha in counts per kelvin to the fourth, K_Ta per degree. Entries past 768 stay.
+ * The camera's basic range is LOAMCHALICE_MLX90640_BASIC_RANGE. Refusals 1, 2, 5, 6. 5 is told where one of four whole numbers of a pixel is outside 16 bits:
+ * its offset; average, row and column of its alpha; the rest of its alpha; the sum of its K_Ta. A blank card, all 0xFF, is one of them. */
+loamchalice_mlx90640_loaded loamchalice_mlx90640_load(
+    const uint8_t *image, size_t image_length, size_t basic_range,
+    int32_t *offsets, size_t offsets_length, float *alpha, size_t alpha_length, float *k_ta, size_t k_ta_length);
+
+/* What a frame of the MLX90640 is read with beside the card's record and tables. */
+typedef struct {
+    loamchalice_settings settings; /* the basic range is 0 to 3 */
+    loamchalice_ram ram;           /* of the subpage */
+    uint8_t subpage; /* 0 is the first, any other number the second */
+    uint8_t pattern; /* LOAMCHALICE_MLX90640_INTERLEAVE is 0; any other number is chess */
+} loamchalice_mlx90640_input;
+
+/* The same, with what the filter of the subpage's compensation pixel answers. */
+typedef struct {
+    loamchalice_mlx90640_input input;
+    loamchalice_average compensation;
+} loamchalice_mlx90640_filtered;
+
+/* Writes the mask of a subpage: 1 for each of its pixels and 0 for the others in the first 768 entries; later ones stay. Refusal 2. */
+loamchalice_outcome loamchalice_mlx90640_subpage_mask(uint8_t subpage, uint8_t pattern, uint8_t *mask, size_t mask_length);
+
+/* The frame calls, as the MLX90641's. A mask need not fit subpage and pattern: they choose the compensation pixel's numbers and the access terms, and the mask
+ * which pixels are written. Refusals of the first: 2, 10, 7, 8; of infrared to temperatures: 2, 10, 6, 8 (for the emissivity only); of one pass: 2, 10, 6, 7,
+ * 8; of the second pass: 2, 10, 6, 7, 8, 12. */
+loamchalice_answer loamchalice_mlx90640_raw_pixels_to_ir_data(
+    loamchalice_mlx90640_record calibration, loamchalice_mlx90640_input input,
+    const int32_t *offsets, size_t offsets_length, const float *k_ta, size_t k_ta_length,
+    const uint8_t *pixels, size_t pixels_length, const uint8_t *mask, size_t mask_length, uint32_t *destination, size_t destination_length);
+
+loamchalice_answer loamchalice_mlx90640_raw_ir_to_temperatures(
+    loamchalice_mlx90640_record calibration, loamchalice_settings settings, uint8_t subpage, float t_a,
+    const float *alpha, size_t alpha_length, const uint8_t *mask, size_t mask_length, uint32_t *destination, size_t destination_length);
+
+loamchalice_answer loamchalice_mlx90640_raw_pixels_to_temperatures(
+    loamchalice_mlx90640_record calibration, loamchalice_mlx90640_input input,
+    const int32_t *offsets, size_t offsets_length, const float *alpha, size_t alpha_length, const float *k_ta, size_t k_ta_length,
+    const uint8_t *pixels, size_t pixels_length, const uint8_t *mask, size_t mask_length, uint32_t *destination, size_t destination_length);
+
+loamchalice_answer loamchalice_mlx90640_raw_pixels_to_ranged_temperatures(
+    loamchalice_mlx90640_record calibration, loamchalice_mlx90640_input input,
+    const int32_t *offsets, size_t offsets_length, const float *alpha, size_t alpha_length, const float *k_ta, size_t k_ta_length,
+    const uint8_t *pixels, size_t pixels_length, const uint8_t *mask, size_t mask_length, uint32_t *destination, size_t destination_length);
+
+/* With a filter's answer. */
+loamchalice_answer loamchalice_mlx90640_filtered_pixels_to_ir_data(
+    loamchalice_mlx90640_record calibration, loamchalice_mlx90640_filtered filtered,
+    const int32_t *offsets, size_t offsets_length, const float *k_ta, size_t k_ta_length,
+    const uint8_t *pixels, size_t pixels_length, const uint8_t *mask, size_t mask_length, uint32_t *destination, size_t destination_length);
+
+loamchalice_answer loamchalice_mlx90640_filtered_pixels_to_temperatures(
+    loamchalice_mlx90640_record calibration, loamchalice_mlx90640_filtered filtered,
+    const int32_t *offsets, size_t offsets_length, const float *alpha, size_t alpha_length, const float *k_ta, size_t k_ta_length,
+    const uint8_t *pixels, size_t pixels_length, const uint8_t *mask, size_t mask_length, uint32_t *destination, size_t destination_length);
+
+loamchalice_answer loamchalice_mlx90640_filtered_pixels_to_ranged_temperatures(
+    loamchalice_mlx90640_record calibration, loamchalice_mlx90640_filtered filtered,
+    const int32_t *offsets, size_t offsets_length, const float *alpha, size_t alpha_length, const float *k_ta, size_t k_ta_length,
+    const uint8_t *pixels, size_t pixels_length, const uint8_t *mask, size_t mask_length, uint32_t *destination, size_t destination_length);
 
 typedef struct {
     int8_t six;   /* the upper six bits, signed */
@@ -326,7 +460,7 @@ typedef struct {
 } loamchalice_mlx90640_access;
 
 typedef struct {
-    uint64_t number, place, value;
+    loamchalice_told told;
     size_t entry; /* 0 after a refusal */
 } loamchalice_mlx90640_entry;
 
@@ -342,6 +476,31 @@ loamchalice_mlx90640_access loamchalice_mlx90640_access_pattern(uint16_t word);
  * 1 an odd row and an even column, 2 an even row and an odd column, 3 both odd. Refusal 14. */
 loamchalice_mlx90640_entry loamchalice_mlx90640_interleave_entry(size_t pixel);
 loamchalice_mlx90640_entry loamchalice_mlx90640_chessboard_entry(size_t pixel);
+
+/* What a refusal's number says, in words; with place and value it says which. */
+static inline const char *loamchalice_refusal_text(uint64_t number) {
+    switch (number) {
+    case 0: return "no refusal";
+    case 1: return "the image is too short, or a list of words is not of its length";
+    case 2: return "a table is too short";
+    case 3: return "a chip word is damaged";
+    case 4: return "the offset scale is above 20";
+    case 5: return "a number of a pixel is outside 16 bits";
+    case 6: return "there is no such basic range";
+    case 7: return "the supply reading is too far from its reference";
+    case 8: return "a divisor is zero, or the emissivity is zero or NaN";
+    case 9: return "data is above 2047";
+    case 10: return "pixel bytes, destination or mask are too short";
+    case 11: return "an unchecked word is another in the wanted image";
+    case 12: return "a corner temperature is not above the one before it";
+    case 13: return "a range coefficient would be divided by zero";
+    case 14: return "there is no such pixel";
+    default: return "no such refusal";
+    }
+}
+
+/* LOAMCHALICE_VERSION, for programs that can't read a macro. */
+static inline const char *loamchalice_version(void) { return LOAMCHALICE_VERSION; }
 
 /* The number of bits that a call has written, and the bits of a number. */
 static inline float loamchalice_float(uint32_t bits) {
@@ -386,7 +545,7 @@ typedef struct {
 /* loamchalice_load with the camera's basic range. A refused card leaves the camera as it was. Refusals 1, 3, 4. */
 static inline loamchalice_loaded loamchalice_camera_load(loamchalice_camera *camera, const uint8_t *image, size_t image_length) {
     loamchalice_loaded loaded = loamchalice_load(image, image_length, LOAMCHALICE_BASIC_RANGE, LOAMCHALICE_TABLES);
-    if (loaded.number == 0) {
+    if (loaded.told.number == 0) {
         camera->record = loaded.calibration;
     }
     return loaded;
@@ -404,28 +563,34 @@ static inline float loamchalice_resolution_correction(uint8_t calibrated, uint8_
     return correction;
 }
 
-/* Settings for a card: its own emissivity, and the correction for the camera's current resolution, 0 to 3, which stands in bits 10 and 11 of its control
- * register (2 after power-on). The rest are the camera's numbers, and no reflected temperature is given. The basic range is that of
- * loamchalice_camera_load; whoever loads with another one sets it here too. */
-static inline loamchalice_settings loamchalice_settings_of(const loamchalice_record *record, uint8_t current_resolution) {
+/* What is the same for all cards of a camera. */
+static inline loamchalice_settings loamchalice_settings_with(size_t basic_range, float emissivity, float resolution_correction, float self_heating) {
     loamchalice_settings settings;
-    settings.basic_range = LOAMCHALICE_BASIC_RANGE;
-    settings.emissivity = record->emissivity;
-    settings.resolution_correction = loamchalice_resolution_correction(record->resolution, current_resolution);
+    settings.basic_range = basic_range;
+    settings.emissivity = emissivity;
+    settings.resolution_correction = resolution_correction;
     settings.v_dd_0 = 3.3f;
-    settings.self_heating = 5.0f;
+    settings.self_heating = self_heating;
     settings.reflected = 0.0f;
     settings.reflected_given = 0;
     return settings;
 }
 
+/* Settings for a card: its own emissivity, and the correction for the camera's current resolution, 0 to 3, which stands in bits 10 and 11 of its control
+ * register (2 after power-on). The rest are the camera's numbers, and no reflected temperature is given. The basic range is that of
+ * loamchalice_camera_load; whoever loads with another one sets it here too. */
+static inline loamchalice_settings loamchalice_settings_of(const loamchalice_record *record, uint8_t current_resolution) {
+    float correction = loamchalice_resolution_correction(record->resolution, current_resolution);
+    return loamchalice_settings_with(LOAMCHALICE_BASIC_RANGE, record->emissivity, correction, LOAMCHALICE_SELF_HEATING);
+}
+
 /* Neither an infinity nor NaN. */
 static inline int loamchalice_finite(float x) { return (loamchalice_bits(x) & 0x7F800000u) != 0x7F800000u; }
 
-/* What looks wrong in these numbers, though no call refuses all of it; NULL if nothing does. A lamp box should not run with a warning. */
-static inline const char *loamchalice_warning(const loamchalice_settings *settings) {
-    if (settings->basic_range > 7) {
-        return "the basic range is above 7";
+/* What looks wrong in these numbers, for a camera of so many ranges. */
+static inline const char *loamchalice_warning_of(const loamchalice_settings *settings, size_t ranges) {
+    if (settings->basic_range >= ranges) {
+        return "the camera has no such basic range";
     }
     if (!loamchalice_finite(settings->emissivity) || settings->emissivity <= 0.0f || settings->emissivity > 1.0f) {
         return "the emissivity is not above 0 and at most 1";
@@ -445,14 +610,19 @@ static inline const char *loamchalice_warning(const loamchalice_settings *settin
     return NULL;
 }
 
+/* What looks wrong in these numbers, though no call refuses all of it; NULL if nothing does. A lamp box should not run with a warning. */
+static inline const char *loamchalice_warning(const loamchalice_settings *settings) { return loamchalice_warning_of(settings, LOAMCHALICE_RANGES); }
+
+/* Whether the gain in RAM is a quarter or less from a card's. */
+static inline int loamchalice_gain_is_near(float card, loamchalice_ram ram) {
+    float read = (float)ram.gain;
+    return loamchalice_finite(card) && card > 0.0f && read >= 0.75f * card && read <= 1.25f * card;
+}
+
 /* What looks wrong between a card and the RAM of a frame: gains more than a quarter apart, as from a half-burnt card or another camera's. No call refuses
  * it. NULL if nothing does. Ask with each frame. */
 static inline const char *loamchalice_gain_warning(const loamchalice_record *record, loamchalice_ram ram) {
-    float read = (float)ram.gain;
-    if (!loamchalice_finite(record->gain) || record->gain <= 0.0f || read < 0.75f * record->gain || read > 1.25f * record->gain) {
-        return "the gain in RAM is far from the card's";
-    }
-    return NULL;
+    return loamchalice_gain_is_near(record->gain, ram) ? NULL : "the gain in RAM is far from the card's";
 }
 
 /* What the frame calls take by value, from its parts. */
@@ -530,6 +700,119 @@ static inline loamchalice_answer loamchalice_camera_filtered_pixels_to_ranged_te
 #undef LOAMCHALICE_TABLES
 #undef LOAMCHALICE_FRAME
 
+/* The same for the MLX90640: a card's record and tables. Subpage and pattern are as in loamchalice_mlx90640_input. */
+typedef struct {
+    loamchalice_mlx90640_record record;
+    int32_t offsets[LOAMCHALICE_MLX90640_PIXELS];
+    float alpha[LOAMCHALICE_MLX90640_PIXELS], k_ta[LOAMCHALICE_MLX90640_PIXELS];
+} loamchalice_mlx90640_camera;
+
+#define LOAMCHALICE_LENT(table) (table), LOAMCHALICE_MLX90640_PIXELS
+#define LOAMCHALICE_TABLES LOAMCHALICE_LENT(camera->offsets), LOAMCHALICE_LENT(camera->alpha), LOAMCHALICE_LENT(camera->k_ta)
+#define LOAMCHALICE_FRAME pixels, pixels_length, LOAMCHALICE_LENT(mask), LOAMCHALICE_LENT(destination)
+
+/* loamchalice_mlx90640_load with the camera's basic range. A refused card leaves the camera as it was. Refusals 1, 5. */
+static inline loamchalice_mlx90640_loaded loamchalice_mlx90640_camera_load(loamchalice_mlx90640_camera *camera, const uint8_t *image, size_t image_length) {
+    loamchalice_mlx90640_loaded loaded = loamchalice_mlx90640_load(image, image_length, LOAMCHALICE_MLX90640_BASIC_RANGE, LOAMCHALICE_TABLES);
+    if (loaded.told.number == 0) {
+        camera->record = loaded.calibration;
+    }
+    return loaded;
+}
+
+/* Settings for a card, as loamchalice_settings_of. This card has no emissivity: it is 1 here, and yours to set. */
+static inline loamchalice_settings loamchalice_mlx90640_settings_of(const loamchalice_mlx90640_record *record, uint8_t current_resolution) {
+    float correction = loamchalice_resolution_correction(record->resolution, current_resolution);
+    return loamchalice_settings_with(LOAMCHALICE_MLX90640_BASIC_RANGE, 1.0f, correction, LOAMCHALICE_MLX90640_SELF_HEATING);
+}
+
+/* As loamchalice_warning and loamchalice_gain_warning. */
+static inline const char *loamchalice_mlx90640_warning(const loamchalice_settings *settings) {
+    return loamchalice_warning_of(settings, LOAMCHALICE_MLX90640_RANGES);
+}
+
+static inline const char *loamchalice_mlx90640_gain_warning(const loamchalice_mlx90640_record *record, loamchalice_ram ram) {
+    return loamchalice_gain_is_near(record->gain, ram) ? NULL : "the gain in RAM is far from the card's";
+}
+
+/* What the frame calls take by value, from its parts. */
+static inline loamchalice_mlx90640_input loamchalice_mlx90640_input_of(
+    const loamchalice_settings *settings, loamchalice_ram ram, uint8_t subpage, uint8_t pattern) {
+    loamchalice_mlx90640_input input;
+    input.settings = *settings;
+    input.ram = ram;
+    input.subpage = subpage;
+    input.pattern = pattern;
+    return input;
+}
+
+static inline loamchalice_mlx90640_filtered loamchalice_mlx90640_filtered_of(
+    const loamchalice_settings *settings, loamchalice_ram ram, loamchalice_average average, uint8_t subpage, uint8_t pattern) {
+    loamchalice_mlx90640_filtered filtered;
+    filtered.input = loamchalice_mlx90640_input_of(settings, ram, subpage, pattern);
+    filtered.compensation = average;
+    return filtered;
+}
+
+/* The frame calls with a camera and settings. Mask and destination have 768 entries. Hand in the count of pixel bytes that came: fewer than 1,536 are refusal
+ * 10. */
+static inline loamchalice_answer loamchalice_mlx90640_camera_raw_pixels_to_ir_data(
+    const loamchalice_mlx90640_camera *camera, const loamchalice_settings *settings, loamchalice_ram ram, uint8_t subpage, uint8_t pattern,
+    const uint8_t *pixels, size_t pixels_length, const uint8_t mask[LOAMCHALICE_MLX90640_PIXELS], uint32_t destination[LOAMCHALICE_MLX90640_PIXELS]) {
+    return loamchalice_mlx90640_raw_pixels_to_ir_data(
+        camera->record, loamchalice_mlx90640_input_of(settings, ram, subpage, pattern), LOAMCHALICE_LENT(camera->offsets), LOAMCHALICE_LENT(camera->k_ta), LOAMCHALICE_FRAME);
+}
+
+static inline loamchalice_answer loamchalice_mlx90640_camera_raw_ir_to_temperatures(
+    const loamchalice_mlx90640_camera *camera, const loamchalice_settings *settings, uint8_t subpage, float t_a,
+    const uint8_t mask[LOAMCHALICE_MLX90640_PIXELS], uint32_t destination[LOAMCHALICE_MLX90640_PIXELS]) {
+    return loamchalice_mlx90640_raw_ir_to_temperatures(
+        camera->record, *settings, subpage, t_a, LOAMCHALICE_LENT(camera->alpha), LOAMCHALICE_LENT(mask), LOAMCHALICE_LENT(destination));
+}
+
+static inline loamchalice_answer loamchalice_mlx90640_camera_raw_pixels_to_temperatures(
+    const loamchalice_mlx90640_camera *camera, const loamchalice_settings *settings, loamchalice_ram ram, uint8_t subpage, uint8_t pattern,
+    const uint8_t *pixels, size_t pixels_length, const uint8_t mask[LOAMCHALICE_MLX90640_PIXELS], uint32_t destination[LOAMCHALICE_MLX90640_PIXELS]) {
+    return loamchalice_mlx90640_raw_pixels_to_temperatures(
+        camera->record, loamchalice_mlx90640_input_of(settings, ram, subpage, pattern), LOAMCHALICE_TABLES, LOAMCHALICE_FRAME);
+}
+
+static inline loamchalice_answer loamchalice_mlx90640_camera_raw_pixels_to_ranged_temperatures(
+    const loamchalice_mlx90640_camera *camera, const loamchalice_settings *settings, loamchalice_ram ram, uint8_t subpage, uint8_t pattern,
+    const uint8_t *pixels, size_t pixels_length, const uint8_t mask[LOAMCHALICE_MLX90640_PIXELS], uint32_t destination[LOAMCHALICE_MLX90640_PIXELS]) {
+    return loamchalice_mlx90640_raw_pixels_to_ranged_temperatures(
+        camera->record, loamchalice_mlx90640_input_of(settings, ram, subpage, pattern), LOAMCHALICE_TABLES, LOAMCHALICE_FRAME);
+}
+
+/* With what loamchalice_filter_average answers for the filter of this subpage. */
+static inline loamchalice_answer loamchalice_mlx90640_camera_filtered_pixels_to_ir_data(
+    const loamchalice_mlx90640_camera *camera, const loamchalice_settings *settings, loamchalice_ram ram, loamchalice_average average, uint8_t subpage,
+    uint8_t pattern, const uint8_t *pixels, size_t pixels_length, const uint8_t mask[LOAMCHALICE_MLX90640_PIXELS],
+    uint32_t destination[LOAMCHALICE_MLX90640_PIXELS]) {
+    return loamchalice_mlx90640_filtered_pixels_to_ir_data(
+        camera->record, loamchalice_mlx90640_filtered_of(settings, ram, average, subpage, pattern), LOAMCHALICE_LENT(camera->offsets), LOAMCHALICE_LENT(camera->k_ta), LOAMCHALICE_FRAME);
+}
+
+static inline loamchalice_answer loamchalice_mlx90640_camera_filtered_pixels_to_temperatures(
+    const loamchalice_mlx90640_camera *camera, const loamchalice_settings *settings, loamchalice_ram ram, loamchalice_average average, uint8_t subpage,
+    uint8_t pattern, const uint8_t *pixels, size_t pixels_length, const uint8_t mask[LOAMCHALICE_MLX90640_PIXELS],
+    uint32_t destination[LOAMCHALICE_MLX90640_PIXELS]) {
+    return loamchalice_mlx90640_filtered_pixels_to_temperatures(
+        camera->record, loamchalice_mlx90640_filtered_of(settings, ram, average, subpage, pattern), LOAMCHALICE_TABLES, LOAMCHALICE_FRAME);
+}
+
+static inline loamchalice_answer loamchalice_mlx90640_camera_filtered_pixels_to_ranged_temperatures(
+    const loamchalice_mlx90640_camera *camera, const loamchalice_settings *settings, loamchalice_ram ram, loamchalice_average average, uint8_t subpage,
+    uint8_t pattern, const uint8_t *pixels, size_t pixels_length, const uint8_t mask[LOAMCHALICE_MLX90640_PIXELS],
+    uint32_t destination[LOAMCHALICE_MLX90640_PIXELS]) {
+    return loamchalice_mlx90640_filtered_pixels_to_ranged_temperatures(
+        camera->record, loamchalice_mlx90640_filtered_of(settings, ram, average, subpage, pattern), LOAMCHALICE_TABLES, LOAMCHALICE_FRAME);
+}
+
+#undef LOAMCHALICE_LENT
+#undef LOAMCHALICE_TABLES
+#undef LOAMCHALICE_FRAME
+
 /* What the archive takes and hands over, on a processor of 64 bits: sizes and places in bytes. */
 #if defined(__cplusplus)
 #define LOAMCHALICE_ASSERT(test) static_assert(test, "Loamchalice's layout")
@@ -543,8 +826,10 @@ static inline loamchalice_answer loamchalice_camera_filtered_pixels_to_ranged_te
 #define LOAMCHALICE_SIZE(type, bytes) LOAMCHALICE_ASSERT(sizeof(loamchalice_##type) == (bytes))
 #define LOAMCHALICE_AT(type, field, bytes) (offsetof(loamchalice_##type, field) == (bytes))
 LOAMCHALICE_ASSERT(sizeof(void *) == 8 && sizeof(size_t) == 8 && sizeof(float) == 4);
+LOAMCHALICE_SIZE(told, 24);
+LOAMCHALICE_ASSERT(LOAMCHALICE_AT(told, number, 0) && LOAMCHALICE_AT(told, place, 8) && LOAMCHALICE_AT(told, value, 16));
 LOAMCHALICE_SIZE(word, 32);
-LOAMCHALICE_ASSERT(LOAMCHALICE_AT(word, number, 0) && LOAMCHALICE_AT(word, place, 8) && LOAMCHALICE_AT(word, value, 16) &&
+LOAMCHALICE_ASSERT(LOAMCHALICE_AT(word, told, 0) &&
                    LOAMCHALICE_AT(word, word, 24) && LOAMCHALICE_AT(word, mended, 26) && LOAMCHALICE_AT(word, bit, 27));
 LOAMCHALICE_SIZE(part, 16);
 LOAMCHALICE_ASSERT(LOAMCHALICE_AT(part, start, 0) && LOAMCHALICE_AT(part, length, 8));
@@ -557,7 +842,7 @@ LOAMCHALICE_ASSERT(LOAMCHALICE_AT(record, k_v_ptat, 0) && LOAMCHALICE_AT(record,
                    LOAMCHALICE_AT(record, offset_reference_cp, 96) && LOAMCHALICE_AT(record, resolution, 98) &&
                    LOAMCHALICE_AT(record, has_gradient, 99) && LOAMCHALICE_AT(record, range_coefficients, 100));
 LOAMCHALICE_SIZE(loaded, 176);
-LOAMCHALICE_ASSERT(LOAMCHALICE_AT(loaded, number, 0) && LOAMCHALICE_AT(loaded, place, 8) && LOAMCHALICE_AT(loaded, value, 16) &&
+LOAMCHALICE_ASSERT(LOAMCHALICE_AT(loaded, told, 0) &&
                    LOAMCHALICE_AT(loaded, mended, 24) && LOAMCHALICE_AT(loaded, last_mended, 32) && LOAMCHALICE_AT(loaded, calibration, 40));
 LOAMCHALICE_SIZE(reader, 192);
 LOAMCHALICE_ASSERT(LOAMCHALICE_AT(reader, count, 0) && LOAMCHALICE_AT(reader, ended, 8) && LOAMCHALICE_AT(reader, answer, 16));
@@ -574,15 +859,15 @@ LOAMCHALICE_ASSERT(LOAMCHALICE_AT(settings, basic_range, 0) && LOAMCHALICE_AT(se
 LOAMCHALICE_SIZE(input, 48);
 LOAMCHALICE_ASSERT(LOAMCHALICE_AT(input, settings, 0) && LOAMCHALICE_AT(input, ram, 32) && LOAMCHALICE_AT(input, subpage, 42));
 LOAMCHALICE_SIZE(answer, 40);
-LOAMCHALICE_ASSERT(LOAMCHALICE_AT(answer, number, 0) && LOAMCHALICE_AT(answer, place, 8) && LOAMCHALICE_AT(answer, value, 16) &&
+LOAMCHALICE_ASSERT(LOAMCHALICE_AT(answer, told, 0) &&
                    LOAMCHALICE_AT(answer, lost, 24) && LOAMCHALICE_AT(answer, t_a, 32));
 LOAMCHALICE_SIZE(outcome, 24);
-LOAMCHALICE_ASSERT(LOAMCHALICE_AT(outcome, number, 0) && LOAMCHALICE_AT(outcome, place, 8) && LOAMCHALICE_AT(outcome, value, 16));
+LOAMCHALICE_ASSERT(LOAMCHALICE_AT(outcome, told, 0));
 LOAMCHALICE_SIZE(step, 40);
-LOAMCHALICE_ASSERT(LOAMCHALICE_AT(step, number, 0) && LOAMCHALICE_AT(step, place, 8) && LOAMCHALICE_AT(step, value, 16) &&
+LOAMCHALICE_ASSERT(LOAMCHALICE_AT(step, told, 0) &&
                    LOAMCHALICE_AT(step, word, 24) && LOAMCHALICE_AT(step, bits, 32) && LOAMCHALICE_AT(step, reached, 34));
 LOAMCHALICE_SIZE(scrubbed, 40);
-LOAMCHALICE_ASSERT(LOAMCHALICE_AT(scrubbed, number, 0) && LOAMCHALICE_AT(scrubbed, place, 8) && LOAMCHALICE_AT(scrubbed, value, 16) &&
+LOAMCHALICE_ASSERT(LOAMCHALICE_AT(scrubbed, told, 0) &&
                    LOAMCHALICE_AT(scrubbed, changed, 24) && LOAMCHALICE_AT(scrubbed, damaged, 32));
 LOAMCHALICE_SIZE(filter, 40);
 LOAMCHALICE_ASSERT(LOAMCHALICE_AT(filter, readings, 0) && LOAMCHALICE_AT(filter, sum, 32) && LOAMCHALICE_AT(filter, turn, 36));
@@ -590,6 +875,25 @@ LOAMCHALICE_SIZE(average, 8);
 LOAMCHALICE_ASSERT(LOAMCHALICE_AT(average, average, 0) && LOAMCHALICE_AT(average, ready, 4));
 LOAMCHALICE_SIZE(filtered, 56);
 LOAMCHALICE_ASSERT(LOAMCHALICE_AT(filtered, input, 0) && LOAMCHALICE_AT(filtered, compensation, 48));
+LOAMCHALICE_SIZE(mlx90640_record, 140);
+LOAMCHALICE_ASSERT(LOAMCHALICE_AT(mlx90640_record, k_v_ptat, 0) && LOAMCHALICE_AT(mlx90640_record, k_t_ptat, 4) &&
+                   LOAMCHALICE_AT(mlx90640_record, v_ptat_25, 8) && LOAMCHALICE_AT(mlx90640_record, alpha_ptat, 12) &&
+                   LOAMCHALICE_AT(mlx90640_record, gain, 16) && LOAMCHALICE_AT(mlx90640_record, k_s_ta, 20) &&
+                   LOAMCHALICE_AT(mlx90640_record, k_v_cp, 24) && LOAMCHALICE_AT(mlx90640_record, k_ta_cp, 28) &&
+                   LOAMCHALICE_AT(mlx90640_record, gradient, 32) && LOAMCHALICE_AT(mlx90640_record, access_cp, 36) &&
+                   LOAMCHALICE_AT(mlx90640_record, alpha_cp, 40) && LOAMCHALICE_AT(mlx90640_record, k_s_to, 48) &&
+                   LOAMCHALICE_AT(mlx90640_record, range_coefficients, 64) && LOAMCHALICE_AT(mlx90640_record, k_v, 80) &&
+                   LOAMCHALICE_AT(mlx90640_record, access_pattern, 96) && LOAMCHALICE_AT(mlx90640_record, corner_temperatures, 120) &&
+                   LOAMCHALICE_AT(mlx90640_record, offset_reference_cp, 128) && LOAMCHALICE_AT(mlx90640_record, k_v_dd, 132) &&
+                   LOAMCHALICE_AT(mlx90640_record, v_dd_25, 134) && LOAMCHALICE_AT(mlx90640_record, resolution, 136) &&
+                   LOAMCHALICE_AT(mlx90640_record, has_gradient, 137) && LOAMCHALICE_AT(mlx90640_record, unused, 138));
+LOAMCHALICE_SIZE(mlx90640_loaded, 168);
+LOAMCHALICE_ASSERT(LOAMCHALICE_AT(mlx90640_loaded, told, 0) && LOAMCHALICE_AT(mlx90640_loaded, calibration, 24));
+LOAMCHALICE_SIZE(mlx90640_input, 48);
+LOAMCHALICE_ASSERT(LOAMCHALICE_AT(mlx90640_input, settings, 0) && LOAMCHALICE_AT(mlx90640_input, ram, 32) &&
+                   LOAMCHALICE_AT(mlx90640_input, subpage, 42) && LOAMCHALICE_AT(mlx90640_input, pattern, 43));
+LOAMCHALICE_SIZE(mlx90640_filtered, 56);
+LOAMCHALICE_ASSERT(LOAMCHALICE_AT(mlx90640_filtered, input, 0) && LOAMCHALICE_AT(mlx90640_filtered, compensation, 48));
 LOAMCHALICE_SIZE(mlx90640_six_ten, 4);
 LOAMCHALICE_ASSERT(LOAMCHALICE_AT(mlx90640_six_ten, six, 0) && LOAMCHALICE_AT(mlx90640_six_ten, ten, 2));
 LOAMCHALICE_SIZE(mlx90640_unsigned, 4);
@@ -600,8 +904,7 @@ LOAMCHALICE_SIZE(mlx90640_access, 36);
 LOAMCHALICE_ASSERT(LOAMCHALICE_AT(mlx90640_access, chess_3, 0) && LOAMCHALICE_AT(mlx90640_access, chess_2, 4) &&
                    LOAMCHALICE_AT(mlx90640_access, chess_1, 8) && LOAMCHALICE_AT(mlx90640_access, pattern, 12));
 LOAMCHALICE_SIZE(mlx90640_entry, 32);
-LOAMCHALICE_ASSERT(LOAMCHALICE_AT(mlx90640_entry, number, 0) && LOAMCHALICE_AT(mlx90640_entry, place, 8) &&
-                   LOAMCHALICE_AT(mlx90640_entry, value, 16) && LOAMCHALICE_AT(mlx90640_entry, entry, 24));
+LOAMCHALICE_ASSERT(LOAMCHALICE_AT(mlx90640_entry, told, 0) && LOAMCHALICE_AT(mlx90640_entry, entry, 24));
 #undef LOAMCHALICE_JOIN
 #undef LOAMCHALICE_NAME
 #undef LOAMCHALICE_ASSERT

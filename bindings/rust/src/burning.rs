@@ -20,8 +20,9 @@ pub struct Burnt {
 }
 
 fn answered(answer: border::Step) -> Result<Burnt, Refusal> {
+    Refusal::check(answer.told)?;
     let step = (answer.word < 832).then_some(Step { word: answer.word, value: answer.bits });
-    Refusal::of(answer.number, answer.place, answer.value).map_or(Ok(Burnt { step, reached: answer.reached != 0 }), Err)
+    Ok(Burnt { step, reached: answer.reached != 0 })
 }
 
 /// The next step from a present image to a wanted one, or None if it is reached: the first word that differs becomes zero, or, where it is zero,

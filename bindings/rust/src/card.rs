@@ -34,7 +34,8 @@ impl Card {
     pub fn words(image: &[u8]) -> Result<Self, Refusal> {
         let mut card = Card { data: [0; 814], unchecked: [0; 18] };
         let answer = border::read_words(image, &mut card.data, &mut card.unchecked);
-        Refusal::of(answer.number, answer.place, answer.value).map_or(Ok(card), Err)
+        Refusal::check(answer.told)?;
+        Ok(card)
     }
 
     /// The image of these words.
@@ -53,6 +54,7 @@ impl Card {
     pub fn write(&self) -> Result<[u8; 1664], Refusal> {
         let mut image = [0; 1664];
         let answer = border::write(&self.data, &self.unchecked, &mut image);
-        Refusal::of(answer.number, answer.place, answer.value).map_or(Ok(image), Err)
+        Refusal::check(answer.told)?;
+        Ok(image)
     }
 }

@@ -1,6 +1,6 @@
 use crate::border;
 
-/// A steadier compensation pixel: the last 16 of its raw readings. The camera's noise in that one pixel moves the whole picture, and its maker advises a moving
+/// A steadier compensation pixel: the last 16 of its raw readings, in counts. The camera's noise in that one pixel moves the whole picture, and its maker advises a moving
 /// average of 16 or more. A filter knows nothing of subpages: who reads both keeps two.
 ///
 /// ```
@@ -30,7 +30,7 @@ impl Filter {
         self.0 = border::filter_push(self.0, reading);
     }
 
-    /// The average of the last 16 readings, which is not rounded; `None` while fewer are in.
+    /// The average of the last 16 readings, in counts, which is not rounded; `None` while fewer are in.
     pub fn average(&self) -> Option<f32> {
         let answer = border::filter_average(self.0);
         (answer.ready != 0).then_some(answer.average)

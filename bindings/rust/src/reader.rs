@@ -1,4 +1,5 @@
-use crate::{border, Calibration, Refusal, Tables, BASIC_RANGE};
+use crate::mlx90641::{Calibration, Tables, BASIC_RANGE};
+use crate::{border, Refusal};
 
 /// A card as it arrives over a bus, in pieces of any length. A damaged word is told on the piece that completes it, all else with the last of 1,664
 /// bytes; however it is cut, a whole card ends as [`Calibration::from_data`] does. An empty piece changes nothing. Once ended, every call repeats the answer.
@@ -52,7 +53,7 @@ impl Reader {
             self.basic_range = basic_range;
         }
         let Tables { offsets: [zero, one], alpha, k_v, k_ta } = &mut self.tables;
-        let taken = border::reader_take(&mut self.image, self.state, piece, basic_range, [zero, one], alpha, k_v, k_ta);
+        let taken = border::reader_take(&mut self.image, self.state, piece, basic_range, zero, one, alpha, k_v, k_ta);
         self.state = taken.reader;
         if self.state.ended == 0 {
             return Ok(None);

@@ -1,5 +1,8 @@
 //! Readings of document 01 through the binding.
-use loamchalice::{burn, environment_is_default, next_step, scrub, Burnt, Calibration, Card, Filter, RamData, Reader, Refusal, Settings, Subpage, ALL_PIXELS};
+use loamchalice::{
+    add_checksum, alpha_row, burn, check_word, environment_is_default, fourth_root, next_step, scrub, subpage_offsets, validate_checksum, Burnt, Calibration,
+    Card, Checked, Filter, RamData, Reader, Refusal, Settings, Subpage, ALL_PIXELS,
+};
 
 const SOUND: &[u8] = include_bytes!("../cards/sound.bin");
 const ROOM: RamData = RamData { t_a_v_be: 19442, t_a_ptat: 1711, v_dd_pixel: -13115, gain: 6391, compensation_pixel: -105 };
@@ -18,7 +21,7 @@ fn cards_are_refused_by_number_place_and_value() {
 #[test]
 fn a_refusal_says_itself() {
     let refusal = Calibration::from_data(include_bytes!("../cards/damaged.bin")).unwrap_err();
-    assert_eq!(refusal.to_string(), "refusal 3: word 100 is damaged: 0x0204");
+    assert_eq!(refusal.to_string(), "refusal 3: a chip word is damaged (word 100, 0x0204)");
     let _: &dyn std::error::Error = &refusal;
 }
 
@@ -75,6 +78,62 @@ fn refusals_of_frames() {
     assert_eq!(call(Settings { emissivity: f32::NAN, ..usual }, ROOM), Some(8));
 }
 
+// All 65,536 words: 2048 are codewords, 16 more are one flip from each, and the rest is damaged.
+#[test]
+fn every_chip_word_is_checked() {
+    let mut counts = [0; 3];
+    for word in 0..=u16::MAX {
+        match check_word(word) {
+            Ok(Checked::Clean(data)) => {
+                assert_eq!(add_checksum(data), Ok(word));
+                counts[0] += 1;
+            }
+            Ok(Checked::Mended { data, bit }) => {
+                assert_eq!(add_checksum(data), Ok(word ^ 1 << bit));
+                counts[1] += 1;
+            }
+            Err(refusal) => {
+                assert_eq!(refusal, Refusal::DamagedWord { word: 0, bits: word });
+                counts[2] += 1;
+            }
+        }
+        assert_eq!(validate_checksum(word), check_word(word).map(Checked::data));
+    }
+    assert_eq!(counts, [2048, 32768, 30720]);
+    assert!((2048..=u16::MAX).all(|data| add_checksum(data) == Err(Refusal::DataTooLarge { data })));
+}
+
+#[test]
+fn parts_are_parts_of_what_is_lent() {
+    for row in 0..6 {
+        assert_eq!(alpha_row(SOUND, row), &SOUND[512 + 64 * row..576 + 64 * row]);
+    }
+    assert!(alpha_row(SOUND, usize::MAX).is_empty() && alpha_row(&SOUND[..1663], 0).is_empty());
+    let (zero, one): (Vec<i32>, Vec<i32>) = ((0..200).collect(), (1000..1192).collect());
+    assert_eq!(subpage_offsets(&zero, &one, Subpage::Zero), &zero[..192]);
+    assert_eq!(subpage_offsets(&zero, &one, Subpage::One), &one[..]);
+    for x in [0.0, 1.0, 16.0, 6561.0, 2f32.powi(100)] {
+        assert_eq!(fourth_root(x), x.sqrt().sqrt());
+    }
+    assert!(fourth_root(-1.0).is_nan());
+}
+
+#[test]
+fn corners_that_do_not_rise_stop_the_second_pass_alone() {
+    let mut card = Card::words(SOUND).unwrap();
+    card.data[58 - 18] = 0; // corner 5 at 0 degrees
+    let camera = Calibration::from_data(&card.write().unwrap()).unwrap();
+    let mut picture = [7.5f32; 192];
+    for average in [None, Some(-105.0)] {
+        let refused = camera.filtered_pixels_to_ranged_temperatures(&Settings::default(), ROOM, average, Subpage::Zero, &[0; 384], &ALL_PIXELS, &mut picture);
+        assert_eq!(refused, Err(Refusal::UnorderedCorners { corner: 5 }));
+    }
+    let refused = camera.raw_pixels_to_ranged_temperatures(&Settings::default(), ROOM, Subpage::One, &[0; 384], &ALL_PIXELS, &mut picture);
+    assert_eq!(refused, Err(Refusal::UnorderedCorners { corner: 5 }));
+    assert_eq!(picture, [7.5; 192]);
+    assert!(camera.picture(&Settings::default(), ROOM, Subpage::One, &[0; 384]).is_ok());
+}
+
 #[test]
 fn no_gradient_is_not_gradient_zero_in_kind() {
     let camera = Calibration::from_data(SOUND).unwrap();
@@ -92,7 +151,7 @@ fn the_bigger_camera_has_768_pixels() {
     }
     let refusal = interleave_entry(768).unwrap_err();
     assert_eq!((refusal.number(), refusal.place(), refusal.value()), (14, 768, 0));
-    assert_eq!(refusal.to_string(), "refusal 14: there is no pixel 768, only 0 to 767");
+    assert_eq!(refusal.to_string(), "refusal 14: there is no such pixel (pixel 768)");
     assert_eq!((interleave_entry(767), chessboard_entry(767)), (Ok(5), Ok(3)));
 }
 
@@ -130,7 +189,7 @@ fn a_changed_word_is_loaded() {
     card.data[813] = 2048;
     let refused = card.write().unwrap_err();
     assert_eq!((refused.number(), refused.place(), refused.value()), (9, 813, 2048));
-    assert_eq!(refused.to_string(), "refusal 9: entry 813 of the data is 2048, above 2047");
+    assert_eq!(refused.to_string(), "refusal 9: data is above 2047 (entry 813, data 2048)");
 }
 
 // A wiped card with these data; a checked word from 21 on stands 18 entries earlier in their list.
@@ -150,7 +209,7 @@ fn range_coefficients_begin_at_the_basic_range() {
     let zero = with_words(&[(57, 2047), (58, 121)]);
     let refused = Calibration::from_data_in(&zero, 5).unwrap_err();
     assert_eq!((refused.number(), refused.place(), refused.value()), (13, 4, 0));
-    assert_eq!(refused.to_string(), "refusal 13: the coefficient of range 4 would be divided by zero");
+    assert_eq!(refused.to_string(), "refusal 13: a range coefficient would be divided by zero (range 4)");
     assert_eq!(Calibration::from_data_in(&zero, 4).unwrap().range_coefficients(), &[1.0, 1.0, 1.0, 1.0, 1.0, 0.0, 0.0, 0.0]);
     assert_eq!(Calibration::from_data_in(&zero, 8).err(), Some(Refusal::BasicRange { range: 8 }));
 }

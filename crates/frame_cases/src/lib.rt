@@ -7,23 +7,6 @@ use calculations::Input;
 use calibration::Calibration;
 use frames::Frame;
 use offsets::Offset;
-use refusal::Verdict;
-
-// ---- A frame's answer: told, t_a, lost pixels and the whole destination
-
-fn same_done(answer: &[u8], verdict: Verdict, t_a: u32, lost: usize) -> usize {
-    let mut at = stream::same_verdict(answer, 0, verdict);
-    at = stream::same_word(answer, at, t_a);
-    stream::same_size(answer, at, lost)
-}
-
-fn same_frame(answer: &[u8], frame: Frame, destination: &[u32]) -> usize {
-    let at = match frame {
-        Frame::Done { t_a, lost } => same_done(answer, Verdict::Pass, t_a, lost),
-        Frame::Refused(refusal) => same_done(answer, Verdict::Refused(refusal), 0, 0),
-    };
-    stream::same_words(answer, at, destination)
-}
 
 // ---- The calls
 
@@ -240,32 +223,23 @@ fn from_pixels(kind: u16, camera: &[u8], frame: &[u8], input: &[u8], answer: &[u
         input,
         stream::words_mut(&mut destination, given::entries(frame)),
     );
-    same_frame(answer, done, &destination)
-}
-
-// The destination before: the frame's, or the input's own if it has one.
-fn fill_before(frame: &[u8], input: &[u8], destination: &mut [u32]) {
-    if input.len() < 804 {
-        stream::fill_words(frame, 652, destination);
-        return;
-    }
-    stream::fill_words(input, 4, destination);
+    frame_parts::same_frame(answer, done, &destination)
 }
 
 fn from_infrared(camera: &[u8], frame: &[u8], input: &[u8], answer: &[u8]) -> usize {
     let mut alpha = [0.0f32; 200];
     let mut destination = [0u32; 200];
     stream::fill_reals(camera, 1760, &mut alpha);
-    fill_before(frame, input, &mut destination);
+    frame_parts::fill_before(frame, 652, input, &mut destination);
     let done = calculations::raw_ir_to_temperatures(
         given::record(camera),
-        given::settings(frame),
+        frame_parts::settings(frame),
         stream::real_at(input, 0),
         stream::reals(&alpha, stream::size_at(frame, 40)),
         given::mask(frame),
         stream::words_mut(&mut destination, given::entries(frame)),
     );
-    same_frame(answer, done, &destination)
+    frame_parts::same_frame(answer, done, &destination)
 }
 
 // ---- The shelf: a camera, and behind it a frame

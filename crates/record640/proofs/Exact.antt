@@ -20,6 +20,8 @@ use Rattle.floats.specs.Exact.{Exactly}
 use Rattle.floats.proofs.Exact.{fraction, over-exact}
 use Rattle.floats.proofs.Bound.{product-at}
 use Rattle.util.specs.Fields.{signed}
+use Rattle.util.specs.Words.{wordAt}
+use Rattle.util.proofs.Words.{big-endian-lt}
 use Rattle.util.proofs.Width.{stands}
 use Rattle.camera.specs.declared.Gradient.the-variants.{Coefficient, Missing}
 use Rattle.mlx90640.specs.Corrections.{correctionsOf, patternOf}
@@ -28,7 +30,7 @@ use Rattle.mlx90640.proofs.Sums.{valued, exactly}
 use Rattle.mlx90640.proofs.Exact as corrections
 use Rattle.mlx90640.proofs.Exact.{field, whole}
 use Rattle.record640.specs.Record.{kVPtat, kTPtat, alphaPtatOf, wholeOf, kVs, kVCp, kTaCp, alphaCp0, alphaCps, kSTa, gradientOf, kSTos, kVScale, kTaScale, calibrationOf}
-use Rattle.record640.specs.Exact.{ratio, three, two, Claim}
+use Rattle.record640.specs.Exact.{ratio, three, two, Claim, OfImage}
 
 -- ---- 1 + ratio, and alpha_CP of subpage 1
 
@@ -144,3 +146,7 @@ exact w short range =
           also none;
       gradient = λ x e. of-gradient (eqb (w 60 % 256) 0) x (over (signed 8 (w 60)) 5) (signed 8 (w 60)) (field 8 (w 60) 5 (lit≤ tt) (lit≤ tt) (lit≤ tt)) e;
     }
+
+pub of-image : OfImage
+unfolding wordAt
+of-image image h range = exact (wordAt image) (λ k. big-endian-lt _ _ (h (k * 2)) (h (k * 2 + 1))) range

@@ -10,6 +10,7 @@ use Rattle.floats.specs.Constants.{one}
 use Rattle.floats.specs.Floats.{over, _⊕_}
 use Rattle.floats.specs.Exact.{Exactly}
 use Rattle.util.specs.Fields.{signed}
+use Rattle.util.specs.Words.{wordAt}
 use Rattle.camera.specs.declared.Gradient.the-variants.{Coefficient}
 use Rattle.map640.specs.declared.Field.{Field}
 use Rattle.map640.specs.declared.Field.the-variants.{OffsetScales, AlphaScales, Gain, VPtat25, Ptat, KV, Access, AlphaCp, KCp, KSTa, KSTo, Corners}
@@ -100,3 +101,7 @@ pub record Exact (w : ℕ → ℕ) (range : ℕ) : Type 0 where
 -- words have 16 bits
 abbrev pub Claim : Type 0
 Claim = (w : ℕ → ℕ) → ((k : ℕ) → w k < 2 ^ 16) → (range : ℕ) → Exact w range
+
+-- so of every image, whose bytes have 8
+abbrev pub OfImage : Type 0
+OfImage = (image : List ℕ) → ((i : ℕ) → getD image i 0 < 2 ^ 8) → (range : ℕ) → Exact (wordAt image) range

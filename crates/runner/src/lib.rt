@@ -44,7 +44,18 @@ fn read_rest(head: Head, case: &mut [u8]) -> bool {
     io::read_full(STDIN_FILENO, stream::bytes_mut(case, length)) == length
 }
 
-// A camera and a frame stand on the shelf for the cases that follow, and so do the record and the tables of a load's answer.
+// The MLX90641's shelf is so many bytes of it, and the MLX90640's the rest.
+const SHELF: usize = 8192;
+
+fn shelf_mut<'a>(shelf: &'a mut [u8]) -> &'a mut [u8] {
+    stream::bytes_mut(shelf, SHELF)
+}
+
+fn shelf_640_mut<'a>(shelf: &'a mut [u8]) -> &'a mut [u8] {
+    stream::rest_mut(shelf, SHELF)
+}
+
+// A camera and a frame stand on their shelf for the cases that follow, and so do the record and the tables of a load's answer.
 fn shelve(kind: u16, shelf: &mut [u8], input: &[u8], answer: &[u8]) {
     match kind {
         stream::CAMERA => stream::fill_bytes(input, 0, frame_cases::camera_mut(shelf)),
@@ -54,13 +65,26 @@ fn shelve(kind: u16, shelf: &mut [u8], input: &[u8], answer: &[u8]) {
     }
 }
 
+fn shelve_640(kind: u16, shelf: &mut [u8], input: &[u8], answer: &[u8]) {
+    match kind {
+        stream::CAMERA_640 => stream::fill_bytes(input, 0, cases640::camera_mut(shelf)),
+        stream::FRAME_640 => stream::fill_bytes(input, 0, cases640::frame_mut(shelf)),
+        stream::LOAD_640 => stream::fill_bytes(answer, 24, cases640::camera_mut(shelf)),
+        _ => {}
+    }
+}
+
 // How far the answer agrees.
 fn agreed(kind: u16, shelf: &[u8], input: &[u8], answer: &[u8]) -> usize {
     match kind {
         stream::CAMERA => 0,
         stream::FRAME => 0,
+        stream::CAMERA_640 => 0,
+        stream::FRAME_640 => 0,
         stream::INFRARED..=stream::TEMPERATURES => frame_cases::agreed(kind, shelf, input, answer),
-        stream::LOAD_640 => cases640::load(input, answer),
+        stream::LOAD_640..=stream::TEMPERATURES_640 => {
+            cases640::agreed(kind, stream::rest(shelf, SHELF), input, answer)
+        }
         _ => card_cases::agreed(kind, input, answer),
     }
 }
@@ -69,13 +93,14 @@ fn agreed(kind: u16, shelf: &[u8], input: &[u8], answer: &[u8]) -> usize {
 fn call(head: Head, case: &[u8], shelf: &mut [u8]) -> usize {
     let input = stream::bytes(case, head.name, head.input);
     let answer = stream::bytes(case, stream::after(head.name, head.input), head.answer);
-    shelve(head.kind, shelf, input, answer);
+    shelve(head.kind, shelf_mut(shelf), input, answer);
+    shelve_640(head.kind, shelf_640_mut(shelf), input, answer);
     agreed(head.kind, shelf, input, answer)
 }
 
 fn is_kind(kind: u16) -> bool {
     match kind {
-        stream::ENCODE..=stream::LOAD_640 => true,
+        stream::ENCODE..=stream::TEMPERATURES_640 => true,
         _ => false,
     }
 }
@@ -90,8 +115,8 @@ fn run_case(head: Head, case: &mut [u8; 65536], shelf: &mut [u8; 65536]) -> usiz
 }
 
 // One more case of a kind, and one more that agrees if it does.
-fn count(cases: &mut [u64; 32], agree: &mut [u64; 32], kind: u16, same: bool) {
-    let k = (kind % 32) as usize;
+fn count(cases: &mut [u64; 64], agree: &mut [u64; 64], kind: u16, same: bool) {
+    let k = (kind % 64) as usize;
     let more: u64 = if same { 1 } else { 0 };
     cases[k] = std::num::wrapping_add_u64(cases[k], 1);
     agree[k] = std::num::wrapping_add_u64(agree[k], more);
@@ -105,7 +130,7 @@ fn keep_name(first: First, case: &[u8; 65536], name: &mut [u8; 4096]) {
 }
 
 // Counts the cases of each kind. Answers the first that does not agree, with its name.
-fn run_cases(cases: &mut [u64; 32], agree: &mut [u64; 32], name: &mut [u8; 4096]) -> First {
+fn run_cases(cases: &mut [u64; 64], agree: &mut [u64; 64], name: &mut [u8; 4096]) -> First {
     let mut case = io::large_buffer();
     let mut shelf = io::large_buffer();
     let mut first = lines::no_first();
@@ -130,8 +155,8 @@ fn run_cases(cases: &mut [u64; 32], agree: &mut [u64; 32], name: &mut [u8; 4096]
 }
 
 pub fn run() {
-    let mut cases = [0u64; 32];
-    let mut agree = [0u64; 32];
+    let mut cases = [0u64; 64];
+    let mut agree = [0u64; 64];
     let mut name = io::buffer();
     let first = run_cases(&mut cases, &mut agree, &mut name);
     lines::kind_lines(&cases, &agree);

@@ -70,6 +70,23 @@ fn kind_name(kind: u16) -> bool {
         stream::SPLIT => io::write_all(STDOUT_FILENO, b"MLX90640 split"),
         stream::PIXEL => io::write_all(STDOUT_FILENO, b"MLX90640 pixel"),
         stream::LOAD_640 => io::write_all(STDOUT_FILENO, b"MLX90640 load"),
+        stream::MASK_640 => io::write_all(STDOUT_FILENO, b"MLX90640 mask"),
+        stream::INFRARED_640 => io::write_all(STDOUT_FILENO, b"MLX90640 infrared"),
+        stream::ONE_PASS_640 => io::write_all(STDOUT_FILENO, b"MLX90640 one pass"),
+        stream::SECOND_PASS_640 => io::write_all(STDOUT_FILENO, b"MLX90640 second pass"),
+        stream::FILTERED_INFRARED_640 => io::write_all(
+            STDOUT_FILENO,
+            b"MLX90640 filtered infrared",
+        ),
+        stream::FILTERED_ONE_PASS_640 => io::write_all(
+            STDOUT_FILENO,
+            b"MLX90640 filtered one pass",
+        ),
+        stream::FILTERED_SECOND_PASS_640 => io::write_all(
+            STDOUT_FILENO,
+            b"MLX90640 filtered second pass",
+        ),
+        stream::TEMPERATURES_640 => io::write_all(STDOUT_FILENO, b"MLX90640 temperatures"),
         _ => io::write_all(STDOUT_FILENO, b"unknown kind"),
     }
 }
@@ -87,12 +104,14 @@ fn kind_line(kind: u16, cases: u64, agree: u64) {
 }
 
 // A camera and a frame have no answer.
-pub fn kind_lines(cases: &[u64; 32], agree: &[u64; 32]) {
-    for kind in 0..32u16 {
+pub fn kind_lines(cases: &[u64; 64], agree: &[u64; 64]) {
+    for kind in 0..64u16 {
         let k = kind as usize;
         match kind {
             stream::CAMERA => {}
             stream::FRAME => {}
+            stream::CAMERA_640 => {}
+            stream::FRAME_640 => {}
             _ => kind_line(kind, cases[k], agree[k]),
         }
     }

@@ -54,6 +54,26 @@ pub const PIXEL: u16 = 23;
 
 pub const LOAD_640: u16 = 24;
 
+pub const MASK_640: u16 = 25;
+
+pub const CAMERA_640: u16 = 26;
+
+pub const FRAME_640: u16 = 27;
+
+pub const INFRARED_640: u16 = 28;
+
+pub const ONE_PASS_640: u16 = 29;
+
+pub const SECOND_PASS_640: u16 = 30;
+
+pub const FILTERED_INFRARED_640: u16 = 31;
+
+pub const FILTERED_ONE_PASS_640: u16 = 32;
+
+pub const FILTERED_SECOND_PASS_640: u16 = 33;
+
+pub const TEMPERATURES_640: u16 = 34;
+
 // ---- Numbers, upper byte first. Past the end of a block every byte is 0
 
 pub fn byte_at(block: &[u8], at: usize) -> u8 {

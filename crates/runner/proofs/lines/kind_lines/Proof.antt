@@ -5,10 +5,10 @@ use Rattle.runner.proofs.lines.kind_lines.Statement.{statement}
 use Rattle.runner.proofs.lines.kind_lines.Tie as tie
 
 abbrev Inv-loop : tie.InvT-loop
-Inv-loop cases agree kind₀ kind = kind ≤ 32
+Inv-loop cases agree kind₀ kind = kind ≤ 64
 
 abbrev μ-loop : tie.MeasureT-loop
-μ-loop cases agree kind₀ kind = 32 - kind
+μ-loop cases agree kind₀ kind = 64 - kind
 
 pub kind-lines-spec : {M : Type 1} → statement M
 kind-lines-spec =
