@@ -518,9 +518,8 @@ pub fn compare(tally: &mut Tally, seed: u64, frames: u64) {
 
 pub fn tell_powf(tally: &mut Tally, classes: [&str; 2], powf: &[Powf; 2]) {
     for (what, p) in classes.iter().zip(powf) {
-        tally.notes.push(format!(
-            "powf as published, {what}: {} temperatures, {} differ, at most by {} degrees ({}), from -40 to 300 degrees by {}; {} where one is infinite or not a number and the other is not",
-            p.pixels, p.differ, p.degrees, p.worst, p.inside, p.kinds_differ
-        ));
+        let most = format!("at most by {} degrees ({}), from -40 to 300 degrees by {}", p.degrees, p.worst, p.inside);
+        let kinds = format!("{} where one is infinite or not a number and the other is not", p.kinds_differ);
+        tally.notes.push(format!("powf as published, {what}: {} temperatures, {} differ, {most}; {kinds}", p.pixels, p.differ));
     }
 }

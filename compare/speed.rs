@@ -118,6 +118,12 @@ macro_rules! subject {
                 let valid = &mut Mlx90640::pixels_in_subpage(subpage, pattern);
                 calculations::raw_pixels_to_ir_data(c, f.emissivity, f.resolution_correction, &f.pixels, ram(f.ram), subpage, pattern, valid, to)
             }
+
+            pub fn in_turn_640(c: &Mlx90640Calibration, f: &Frame640, to: &mut [f32]) -> f32 {
+                let t_a = infrared_640(c, f, to);
+                temperatures_640(c, f, t_a, to);
+                t_a
+            }
         }
     };
 }
@@ -395,7 +401,7 @@ fn time_frames_640(name: &str, pattern: u8) {
         assert_eq!(library640::raw_pixels_to_temperatures(f, &mut b).number, 0);
         assert!(a.iter().zip(&b).all(|(x, y)| x.to_bits() == *y), "the same pixels");
         assert_eq!(f.mask.iter().filter(|byte| **byte != 0).count(), 384);
-        assert!(a.iter().all(|t| (0.0..60.0).contains(t)), "a room: {:?}", a.iter().fold((0.0, 0.0), |(x, y): (f32, f32), t| (t.min(x), t.max(y))));
+        assert!(a.iter().all(|t| (0.0..60.0).contains(t)), "a room: {a:?}");
     }
     let mut v_ir = [0f32; 768];
     let t_a = published::infrared_640(&p, &frames[0], &mut v_ir);
@@ -411,8 +417,8 @@ fn time_frames_640(name: &str, pattern: u8) {
         keep(&mut pass[1], time(BIGGER_FRAMES, |k| { black_box(rooted::one_pass_640(&r, black_box(&frames[k % n]), black_box(&mut a))); }));
         keep(&mut pass[2], time(BIGGER_FRAMES, |k| { black_box(library640::raw_pixels_to_temperatures(black_box(&frames[k % n]), black_box(&mut b))); }));
         // The same numbers by the crate's two other calls, which its compiled one pass is slower than.
-        keep(&mut in_turn[0], time(BIGGER_FRAMES, |k| { let f = &frames[k % n]; let t_a = published::infrared_640(&p, black_box(f), black_box(&mut a)); published::temperatures_640(&p, f, t_a, black_box(&mut a)); }));
-        keep(&mut in_turn[1], time(BIGGER_FRAMES, |k| { let f = &frames[k % n]; let t_a = rooted::infrared_640(&r, black_box(f), black_box(&mut a)); rooted::temperatures_640(&r, f, t_a, black_box(&mut a)); }));
+        keep(&mut in_turn[0], time(BIGGER_FRAMES, |k| { black_box(published::in_turn_640(&p, black_box(&frames[k % n]), black_box(&mut a))); }));
+        keep(&mut in_turn[1], time(BIGGER_FRAMES, |k| { black_box(rooted::in_turn_640(&r, black_box(&frames[k % n]), black_box(&mut a))); }));
         let infrared = &mut least[1];
         keep(&mut infrared[0], time(BIGGER_FRAMES, |k| { black_box(published::infrared_640(&p, black_box(&frames[k % n]), black_box(&mut a))); }));
         keep(&mut infrared[1], time(BIGGER_FRAMES, |k| { black_box(rooted::infrared_640(&r, black_box(&frames[k % n]), black_box(&mut a))); }));
@@ -422,7 +428,8 @@ fn time_frames_640(name: &str, pattern: u8) {
         keep(&mut onward[0], time(BIGGER_FRAMES, |_| { a = v_ir; published::temperatures_640(&p, black_box(f), t_a, black_box(&mut a)); }));
         keep(&mut onward[1], time(BIGGER_FRAMES, |_| { a = v_ir; rooted::temperatures_640(&r, black_box(f), t_a, black_box(&mut a)); }));
         keep(&mut onward[2], time(BIGGER_FRAMES, |_| { b = v_ir_bits; black_box(library640::raw_ir_to_temperatures(black_box(f), t_a, black_box(&mut b))); }));
-        keep(&mut others[0], time(BIGGER_FRAMES, |k| { black_box(library640::filtered_pixels_to_temperatures(black_box(&frames[k % n]), Some(-54.5), black_box(&mut b))); }));
+        let filtered = |f: &Frame640, to: &mut [u32]| library640::filtered_pixels_to_temperatures(f, Some(-54.5), to);
+        keep(&mut others[0], time(BIGGER_FRAMES, |k| { black_box(filtered(black_box(&frames[k % n]), black_box(&mut b))); }));
         keep(&mut others[1], time(BIGGER_FRAMES, |k| { black_box(library640::raw_pixels_to_ranged_temperatures(black_box(&frames[k % n]), black_box(&mut b))); }));
         let filtered = |f: &Frame640, to: &mut [u32]| library640::filtered_pixels_to_ranged_temperatures(f, Some(-54.5), to);
         keep(&mut others[2], time(BIGGER_FRAMES, |k| { black_box(filtered(black_box(&frames[k % n]), black_box(&mut b))); }));
@@ -456,7 +463,8 @@ fn time_words() {
 }
 
 fn main() {
-    println!("least of {ROUNDS} rounds; {FRAMES} frames, {CARDS} cards, of the MLX90640 {BIGGER_FRAMES} subpages and {BIGGER_CARDS} cards, and once every word in each");
+    let bigger = format!("of the MLX90640 {BIGGER_FRAMES} subpages and {BIGGER_CARDS} cards");
+    println!("least of {ROUNDS} rounds; {FRAMES} frames, {CARDS} cards, {bigger}, and once every word in each");
     time_frames();
     time_frames_640("chess", 1);
     time_frames_640("interleave", 0);
