@@ -319,25 +319,53 @@ pub fn ranged(f: &Frame, destination: usize) -> Verdict {
     seen(f).ranged(destination)
 }
 
-// v before the gradient, of a reading with these numbers; the offset enters as f32, to nearest, ties to even, which is what `as` does.
-fn plain(f: &Frame, t_a: f32, reading: i16, offset: i32, k_v: f32, k_ta: f32) -> f32 {
-    let r = &f.record;
-    let delta = (i32::from(f.ram.v_dd_pixel) - i32::from(r.v_dd_25)) as f32 / f32::from(r.k_v_dd);
-    let supply = delta * f.resolution_correction + f.v_dd_0;
-    let gain = r.gain / f32::from(f.ram.gain);
-    ((f32::from(reading) * gain + 0.0) - (offset as f32 * (1.0 + k_ta * (t_a - 25.0))) * (1.0 + k_v * (supply - 3.3))) / f.emissivity
+/// What all infrared numbers of a frame share.
+pub struct Shared {
+    pub gain: f32,
+    pub supply: f32,
+    pub t_a: f32,
+    pub emissivity: f32,
 }
 
-/// A pixel's infrared number, for offsets that the crate can't hold.
+/// A reading and its numbers, of a pixel or of the compensation pixel. The reading is an f32, since a filter's answer need not be whole.
+pub struct Reading {
+    pub reading: f32,
+    pub offset: i32,
+    pub k_v: f32,
+    pub k_ta: f32,
+    pub access: f32,
+}
+
+impl Shared {
+    /// From the record's gain and supply numbers, and t_a.
+    pub fn new(seen: &Seen, gain: f32, resolution_correction: f32, v_dd_0: f32, t_a: f32) -> Self {
+        let delta = (i32::from(seen.ram.v_dd_pixel) - i32::from(seen.v_dd_25)) as f32 / f32::from(seen.k_v_dd);
+        let supply = delta * resolution_correction + v_dd_0;
+        Shared { gain: gain / f32::from(seen.ram.gain), supply, t_a, emissivity: seen.emissivity }
+    }
+
+    // v before the gradient; the offset enters as f32, to nearest, ties to even, which is what `as` does.
+    fn plain(&self, x: &Reading) -> f32 {
+        let offset = (x.offset as f32 * (1.0 + x.k_ta * (self.t_a - 25.0))) * (1.0 + x.k_v * (self.supply - 3.3));
+        ((x.reading * self.gain + x.access) - offset) / self.emissivity
+    }
+
+    /// A pixel's infrared number.
+    pub fn infrared(&self, pixel: &Reading, gradient: Option<f32>, compensation: &Reading) -> f32 {
+        let v = self.plain(pixel);
+        gradient.map_or(v, |gradient| v - gradient * self.plain(compensation))
+    }
+}
+
+/// The same of a frame of the MLX90641, for offsets that the crate can't hold.
 pub fn infrared_number(f: &Frame, t_a: f32, i: usize) -> f32 {
+    let (seen, r) = (seen(f), &f.record);
     let reading = i16::from_be_bytes([f.pixels[2 * i], f.pixels[2 * i + 1]]);
     let offset = f.tables.offsets[usize::from(f.subpage != 0)][i];
-    let v = plain(f, t_a, reading, offset, f.tables.k_v[i], f.tables.k_ta[i]);
-    let r = &f.record;
-    if r.has_gradient == 0 {
-        return v;
-    }
-    v - r.gradient * plain(f, t_a, f.ram.compensation_pixel, i32::from(r.offset_reference_cp), r.k_v_cp, r.k_ta_cp)
+    let pixel = Reading { reading: reading.into(), offset, k_v: f.tables.k_v[i], k_ta: f.tables.k_ta[i], access: 0.0 };
+    let (reading, offset) = (f.ram.compensation_pixel.into(), r.offset_reference_cp.into());
+    let compensation = Reading { reading, offset, k_v: r.k_v_cp, k_ta: r.k_ta_cp, access: 0.0 };
+    Shared::new(&seen, r.gain, f.resolution_correction, f.v_dd_0, t_a).infrared(&pixel, seen.gradient, &compensation)
 }
 
 fn fourth(x: f32) -> f32 {

@@ -11,11 +11,13 @@ pub type Said = Option<(f32, Vec<f32>)>;
 
 // How the published `powf` differs: in temperatures of one class of frames.
 #[derive(Default)]
-struct Powf {
+pub struct Powf {
     pixels: u64,
     differ: u64,
     degrees: f32,
     worst: String,
+    // Of temperatures from -40 to 300.
+    inside: f32,
     kinds_differ: u64,
 }
 
@@ -199,7 +201,7 @@ pub fn destination(n: &mut Numbers, kind: &str) -> Vec<u32> {
     }
 }
 
-fn floats(bits: &[u32]) -> Vec<f32> {
+pub fn floats(bits: &[u32]) -> Vec<f32> {
     bits.iter().map(|b| f32::from_bits(*b)).collect()
 }
 
@@ -219,17 +221,20 @@ fn same(of_crate: f32, of_library: u32) -> bool {
     }
 }
 
-struct Judged<'a> {
-    call: &'static str,
-    label: &'a str,
-    mask: &'a [u8],
-    before: &'a [u32],
+/// A call on a camera of so many pixels; `camera` stands before what is counted.
+pub struct Judged<'a> {
+    pub camera: &'static str,
+    pub pixels: usize,
+    pub call: &'static str,
+    pub label: &'a str,
+    pub mask: &'a [u8],
+    pub before: &'a [u32],
 }
 
 // One call: its verdict by the document, the library's answer and destination, and what the crate said. True if there are pixels to go on with.
-fn judge(tally: &mut Tally, j: &Judged, verdict: Verdict, answer: Answer, after: &[u32], said: &Said) -> bool {
+pub fn judge(tally: &mut Tally, j: &Judged, verdict: Verdict, answer: Answer, after: &[u32], said: &Said) -> bool {
     let did = if said.is_some() { "crate goes on" } else { "crate panics" };
-    tally.count(&format!("{}, verdict {}, {did}", j.call, verdict.0));
+    tally.count(&format!("{}{}, verdict {}, {did}", j.camera, j.call, verdict.0));
     if (answer.number, answer.place, answer.value) != verdict {
         tally.disagree(|| format!("{} {}: document {verdict:?}, library {answer:?}", j.call, j.label));
         return false;
@@ -250,37 +255,41 @@ fn judge(tally: &mut Tally, j: &Judged, verdict: Verdict, answer: Answer, after:
     if !same(*t_a, answer.t_a) {
         tally.disagree(|| format!("{} {}: t_a {t_a:?}, library 0x{:08X}", j.call, j.label, answer.t_a));
     }
-    let mut lost = 0;
+    let mut counts = [0; 5];
     for (i, (want, is)) in wanted.iter().zip(after).enumerate() {
-        let written = i < 192 && j.mask[i] != 0;
+        let written = i < j.pixels && j.mask[i] != 0;
         let agrees = if written { same(*want, *is) } else { *is == j.before[i] && want.to_bits() == j.before[i] };
         if !agrees {
             let (bits, was) = (want.to_bits(), j.before[i]);
             tally.disagree(|| format!("{} {}: pixel {i}, written {written}, was 0x{was:08X}: crate {want:?} 0x{bits:08X}, library 0x{is:08X}", j.call, j.label));
             return false;
         }
-        if !written {
-            tally.count(PIXELS_LEFT);
-        } else if want.is_nan() {
-            lost += 1;
-            tally.count(PIXELS_LOST);
-        } else {
-            tally.count(if want.is_infinite() { PIXELS_INFINITE } else if *is == 0x8000_0000 { PIXELS_MINUS_ZERO } else { PIXELS_FINITE });
-        }
+        counts[class_of(written, *want)] += 1;
     }
+    for (class, count) in CLASSES.iter().zip(counts).filter(|(_, count)| *count > 0) {
+        tally.add(&format!("{}pixels {class}", j.camera), count);
+    }
+    let lost = counts[LOST] as usize;
     if answer.lost != lost || wanted.len() != after.len() {
         tally.disagree(|| format!("{} {}: {lost} lost, library says {}", j.call, j.label, answer.lost));
     }
     true
 }
 
-const PIXELS_LEFT: &str = "pixels left as they were";
-const PIXELS_LOST: &str = "pixels not a number";
-const PIXELS_INFINITE: &str = "pixels infinite";
-const PIXELS_MINUS_ZERO: &str = "pixels -0";
-const PIXELS_FINITE: &str = "pixels finite";
+const CLASSES: [&str; 5] = ["left as they were", "not a number", "infinite", "-0", "finite"];
+const LOST: usize = 1;
 
-fn compare_powf(powf: &mut Powf, label: &str, published: &[f32], after: &[u32], written: impl Fn(usize) -> bool) {
+fn class_of(written: bool, x: f32) -> usize {
+    match x {
+        _ if !written => 0,
+        _ if x.is_nan() => LOST,
+        _ if x.is_infinite() => 2,
+        _ if x == 0.0 && x.is_sign_negative() => 3,
+        _ => 4,
+    }
+}
+
+pub fn compare_powf(powf: &mut Powf, label: &str, published: &[f32], after: &[u32], written: impl Fn(usize) -> bool) {
     for (i, (a, b)) in published.iter().zip(after).enumerate().filter(|(i, _)| written(*i)) {
         let b = f32::from_bits(*b);
         if a.is_nan() != b.is_nan() || a.is_infinite() != b.is_infinite() {
@@ -288,6 +297,9 @@ fn compare_powf(powf: &mut Powf, label: &str, published: &[f32], after: &[u32], 
         } else if b.is_finite() {
             powf.pixels += 1;
             powf.differ += u64::from(*a != b);
+            if (-40.0..=300.0).contains(&b) {
+                powf.inside = powf.inside.max((a - b).abs());
+            }
             if (a - b).abs() > powf.degrees {
                 powf.degrees = (a - b).abs();
                 powf.worst = format!("{label}, pixel {i}: powf {a:?}, root {b:?}");
@@ -307,7 +319,7 @@ fn one(tally: &mut Tally, powf: &mut [Powf; 2], n: &mut Numbers, label: &str) {
     let mut after = before.clone();
     let answer = library::raw_pixels_to_ir_data(&f, &mut after);
     let said = of_call(&before, |destination| published::raw_pixels_to_ir_data(&f, destination));
-    let j = Judged { call: "infrared", label, mask: &f.mask, before: &before };
+    let j = Judged { camera: "", pixels: 192, call: "infrared", label, mask: &f.mask, before: &before };
     let infrared = judge(tally, &j, document::infrared(&f, before.len()), answer, &after, &said).then(|| (after.clone(), f32::from_bits(answer.t_a)));
     if kind == "realistic" {
         let said = of_call(&before, |destination| published::own_infrared(&f, destination));
@@ -322,13 +334,13 @@ fn one(tally: &mut Tally, powf: &mut [Powf; 2], n: &mut Numbers, label: &str) {
     let mut after = from.clone();
     let answer = library::raw_ir_to_temperatures(&f, t_a, &mut after);
     let said = of_call(&from, |destination| rooted::raw_ir_to_temperatures(&f, t_a, destination));
-    let j = Judged { call: "temperature", label, mask: &f.mask, before: &from };
+    let j = Judged { camera: "", pixels: 192, call: "temperature", label, mask: &f.mask, before: &from };
     judge(tally, &j, document::temperature(&f, from.len()), answer, &after, &said);
 
     let mut after = before.clone();
     let answer = library::raw_pixels_to_temperatures(&f, &mut after);
     let said = of_call(&before, |destination| rooted::raw_pixels_to_temperatures(&f, destination));
-    let j = Judged { call: "one pass", label, mask: &f.mask, before: &before };
+    let j = Judged { camera: "", pixels: 192, call: "one pass", label, mask: &f.mask, before: &before };
     if judge(tally, &j, document::one_pass(&f, before.len()), answer, &after, &said) {
         if kind == "realistic" {
             let said = of_call(&before, |destination| rooted::own_one_pass(&f, destination));
@@ -384,7 +396,7 @@ fn wide(tally: &mut Tally, n: &mut Numbers, label: &str, f: &Frame, before: &[u3
         let t_a = published::raw_pixels_to_ir_data(&narrow, destination);
         put(t_a, destination)
     });
-    let j = Judged { call: "infrared, large offsets", label, mask: &f.mask, before };
+    let j = Judged { camera: "", pixels: 192, call: "infrared, large offsets", label, mask: &f.mask, before };
     judge(tally, &j, verdict, answer, &after, &said);
 
     let mut after = before.to_vec();
@@ -429,7 +441,7 @@ fn ranged(tally: &mut Tally, n: &mut Numbers, label: &str, f: &Frame, before: &[
     let mut after = before.to_vec();
     let answer = library::raw_pixels_to_ranged_temperatures(&f, &mut after);
     let said = by_ranges(tally, &f, before);
-    let j = Judged { call: "second pass", label, mask: &f.mask, before };
+    let j = Judged { camera: "", pixels: 192, call: "second pass", label, mask: &f.mask, before };
     judge(tally, &j, verdict, answer, &after, &said);
 
     // With a filter's answer: see below.
@@ -485,7 +497,7 @@ fn filtered(tally: &mut Tally, n: &mut Numbers, label: &str, f: &Frame, before: 
     let mut after = before.to_vec();
     let answer = library::filtered_pixels_to_ir_data(f, average.map(f32::from), &mut after);
     let said = of_call(before, |destination| published::raw_pixels_to_ir_data(&steadied, destination));
-    let j = Judged { call: "infrared, filtered", label, mask: &f.mask, before };
+    let j = Judged { camera: "", pixels: 192, call: "infrared, filtered", label, mask: &f.mask, before };
     judge(tally, &j, document::infrared(f, before.len()), answer, &after, &said);
 
     let mut after = before.to_vec();
@@ -501,10 +513,13 @@ pub fn compare(tally: &mut Tally, seed: u64, frames: u64) {
         let mut n = Numbers::new(seed.wrapping_mul(0x1_0000_0003).wrapping_add(k).wrapping_mul(2).wrapping_add(1));
         one(tally, &mut powf, &mut n, &format!("frame {k} of seed {seed}"));
     }
-    for (what, p) in ["realistic frames", "all other frames"].iter().zip(&powf) {
-        tally.notes.push(format!(
-            "powf as published, {what}: {} temperatures, {} differ, at most by {} degrees ({}); {} where one is infinite or not a number and the other is not",
-            p.pixels, p.differ, p.degrees, p.worst, p.kinds_differ
-        ));
+    tell_powf(tally, ["realistic frames", "all other frames"], &powf);
+}
+
+pub fn tell_powf(tally: &mut Tally, classes: [&str; 2], powf: &[Powf; 2]) {
+    for (what, p) in classes.iter().zip(powf) {
+        let most = format!("at most by {} degrees ({}), from -40 to 300 degrees by {}", p.degrees, p.worst, p.inside);
+        let kinds = format!("{} where one is infinite or not a number and the other is not", p.kinds_differ);
+        tally.notes.push(format!("powf as published, {what}: {} temperatures, {} differ, {most}; {kinds}", p.pixels, p.differ));
     }
 }

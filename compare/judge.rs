@@ -7,7 +7,9 @@ mod cards;
 mod cards640;
 mod document;
 mod frames;
+mod frames640;
 mod library;
+mod library640;
 mod loads640;
 mod numbers;
 mod roots;
@@ -33,7 +35,7 @@ fn main() {
             shown(info);
         }
     }));
-    println!("seed {seed}, {cards} cards of each camera, {frames} frames, {}", std::env::consts::ARCH);
+    println!("seed {seed}, {cards} cards and {frames} frames of each camera, {}", std::env::consts::ARCH);
     let mut tally = Tally::new();
     words::compare(&mut tally);
     bigger::compare(&mut tally);
@@ -41,6 +43,7 @@ fn main() {
     cards::compare(&mut tally, seed, cards);
     loads640::compare(&mut tally, seed, cards);
     frames::compare(&mut tally, seed, frames);
+    frames640::compare(&mut tally, seed, frames);
     tally.report();
     if tally.disagreements > 0 {
         std::process::exit(1);

@@ -48,8 +48,12 @@ pub const HEATS: [f32; 5] = [5.0, 0.0, -7.25, f32::INFINITY, f32::NAN];
 
 pub static PLANTED: OnceLock<String> = OnceLock::new();
 
-fn planted(name: &str) -> bool {
+pub fn planted(name: &str) -> bool {
     PLANTED.get().is_some_and(|given| given == name)
+}
+
+pub fn any_planted() -> bool {
+    PLANTED.get().is_some()
 }
 
 pub fn root(x: f32) -> u32 {
@@ -261,7 +265,7 @@ fn spoil_640(image: &[u8], before: &Tables640, t: &mut Tables640, answer: &mut L
 }
 
 pub fn load_640(image: &[u8], basic: usize, tables: &mut Tables640) -> Load640 {
-    if PLANTED.get().is_none() {
+    if !any_planted() {
         return border::mlx90640_load(image, basic, &mut tables.offsets, &mut tables.alpha, &mut tables.k_ta);
     }
     let before = tables.clone();

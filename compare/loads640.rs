@@ -303,8 +303,8 @@ fn faults_in_pairs(judge: &mut Judge, good: &[u8], tables: &Tables640) {
     }
 }
 
-// Averages, coefficients and rests whose sums are about the ends of i16, on the way or at the end. Where rows and columns cancel, a sum leaves and comes back.
-fn edges(n: &mut Numbers) -> Words {
+/// Averages, coefficients and rests whose sums are about the ends of i16, on the way or at the end. Where rows and columns cancel, a sum leaves and comes back.
+pub fn edges(n: &mut Numbers) -> Words {
     let mut w = zero_but(&[]);
     for first in [16, 32] {
         let (rows, cancel) = (n.between(8, 15) as u16, n.one_in(2));

@@ -8,11 +8,14 @@ mod document;
 #[allow(dead_code)]
 mod library;
 #[allow(dead_code)]
+mod library640;
+#[allow(dead_code)]
 mod numbers;
 #[allow(dead_code)]
 mod tally;
 
 use library::{border, Frame, Ram, Tables, Tables640};
+use library640::Frame640;
 use mlx9064x as bigger_crate;
 use std::hint::black_box;
 use std::time::Instant;
@@ -20,6 +23,7 @@ use std::time::Instant;
 const FRAMES: usize = 32;
 const CARDS: usize = 96;
 const BIGGER_CARDS: usize = 48;
+const BIGGER_FRAMES: usize = 16;
 const ROUNDS: usize = 500;
 const IMAGE: &[u8; 1664] = include_bytes!("../cards/sound.bin");
 const EIGHT_MENDED: &[u8; 1664] = include_bytes!("../cards/mended.bin");
@@ -28,9 +32,10 @@ const DAMAGED: &[u8; 1664] = include_bytes!("../cards/damaged.bin");
 macro_rules! subject {
     ($name:ident, $subject:ident) => {
         mod $name {
-            use crate::library::Frame;
+            use crate::library::{Frame, Ram};
+            use crate::library640::Frame640;
             use $subject::calculations::{self, RamData};
-            use $subject::mlx90640::Mlx90640Calibration;
+            use $subject::mlx90640::{Mlx90640, Mlx90640Calibration};
             use $subject::mlx90641::hamming::validate_checksum;
             use $subject::mlx90641::{Mlx90641, Mlx90641Calibration};
             use $subject::{AccessPattern, MelexisCamera, Subpage};
@@ -50,14 +55,9 @@ macro_rules! subject {
                 validate_checksum(word).ok()
             }
 
-            fn ram(f: &Frame) -> RamData {
-                RamData {
-                    t_a_v_be: f.ram.t_a_v_be,
-                    t_a_ptat: f.ram.t_a_ptat,
-                    v_dd_pixel: f.ram.v_dd_pixel,
-                    gain: f.ram.gain,
-                    compensation_pixel: f.ram.compensation_pixel,
-                }
+            fn ram(r: Ram) -> RamData {
+                let Ram { t_a_v_be, t_a_ptat, v_dd_pixel, gain, compensation_pixel } = r;
+                RamData { t_a_v_be, t_a_ptat, v_dd_pixel, gain, compensation_pixel }
             }
 
             #[inline(never)]
@@ -66,7 +66,7 @@ macro_rules! subject {
                 let mut valid = Mlx90641::pixels_in_subpage(Subpage::Zero, pattern);
                 let correction = f.resolution_correction;
                 calculations::raw_pixels_to_temperatures(
-                    c, f.emissivity, f.reflected, correction, &f.pixels, ram(f), Subpage::Zero, pattern, &mut valid, destination,
+                    c, f.emissivity, f.reflected, correction, &f.pixels, ram(f.ram), Subpage::Zero, pattern, &mut valid, destination,
                 )
             }
 
@@ -82,8 +82,47 @@ macro_rules! subject {
                 let mut valid = Mlx90641::pixels_in_subpage(Subpage::Zero, pattern);
                 let correction = f.resolution_correction;
                 calculations::raw_pixels_to_ir_data(
-                    c, f.emissivity, correction, &f.pixels, ram(f), Subpage::Zero, pattern, &mut valid, destination,
+                    c, f.emissivity, correction, &f.pixels, ram(f.ram), Subpage::Zero, pattern, &mut valid, destination,
                 )
+            }
+
+            // A subpage of the MLX90640, by the crate's own mask.
+            fn half(f: &Frame640) -> (Subpage, AccessPattern) {
+                let subpage = if f.subpage == 0 { Subpage::Zero } else { Subpage::One };
+                (subpage, if f.pattern == 0 { AccessPattern::Interleave } else { AccessPattern::Chess })
+            }
+
+            pub fn mask_640(f: &Frame640) -> Vec<u8> {
+                let (subpage, pattern) = half(f);
+                Mlx90640::pixels_in_subpage(subpage, pattern).map(u8::from).collect()
+            }
+
+            #[inline(never)]
+            pub fn one_pass_640(c: &Mlx90640Calibration, f: &Frame640, to: &mut [f32]) -> f32 {
+                let (subpage, pattern) = half(f);
+                let valid = &mut Mlx90640::pixels_in_subpage(subpage, pattern);
+                let correction = f.resolution_correction;
+                calculations::raw_pixels_to_temperatures(c, f.emissivity, f.reflected, correction, &f.pixels, ram(f.ram), subpage, pattern, valid, to)
+            }
+
+            #[inline(never)]
+            pub fn temperatures_640(c: &Mlx90640Calibration, f: &Frame640, t_a: f32, to: &mut [f32]) {
+                let (subpage, pattern) = half(f);
+                let valid = &mut Mlx90640::pixels_in_subpage(subpage, pattern);
+                calculations::raw_ir_to_temperatures(c, f.emissivity, t_a, f.reflected, subpage, valid, to)
+            }
+
+            #[inline(never)]
+            pub fn infrared_640(c: &Mlx90640Calibration, f: &Frame640, to: &mut [f32]) -> f32 {
+                let (subpage, pattern) = half(f);
+                let valid = &mut Mlx90640::pixels_in_subpage(subpage, pattern);
+                calculations::raw_pixels_to_ir_data(c, f.emissivity, f.resolution_correction, &f.pixels, ram(f.ram), subpage, pattern, valid, to)
+            }
+
+            pub fn in_turn_640(c: &Mlx90640Calibration, f: &Frame640, to: &mut [f32]) -> f32 {
+                let t_a = infrared_640(c, f, to);
+                temperatures_640(c, f, t_a, to);
+                t_a
             }
         }
     };
@@ -317,6 +356,105 @@ fn time_cards_640() {
     }
 }
 
+/// Card K with rests, and with rows and columns; of alpha's those that leave it about its average, so that a room's pixels have a room's temperatures.
+fn room_card() -> Vec<u8> {
+    let (mut w, mut n) = (cards640::card_k(), numbers::Numbers::new(3));
+    for k in (18..32).chain(64..832) {
+        w[k] = n.next() as u16;
+    }
+    for word in &mut w[34..48] {
+        *word = (0..4).fold(0, |word, _| word << 4 | n.pick(&[0xF, 0, 1]));
+    }
+    cards640::image_of(&w)
+}
+
+/// Subpages of a room in one pattern, both of them in turn.
+fn frames_640(image: &[u8], pattern: u8) -> Vec<Frame640> {
+    let mut tables = Tables640 { offsets: vec![0; 768], alpha: vec![0.0; 768], k_ta: vec![0.0; 768] };
+    let loaded = library::load_640(image, cards640::BASIC, &mut tables);
+    assert_eq!(loaded.number, 0);
+    let mut n = numbers::Numbers::new(2);
+    (0..16)
+        .map(|k| {
+            let mut f = Frame640 {
+                image: image.to_vec(),
+                record: loaded.calibration,
+                tables: tables.clone(),
+                emissivity: 0.95,
+                resolution_correction: 1.0,
+                v_dd_0: 3.3,
+                ram: Ram { t_a_v_be: 19442, t_a_ptat: 1711, v_dd_pixel: -13115, gain: 6273, compensation_pixel: -54 },
+                subpage: k % 2,
+                pattern,
+                range: cards640::BASIC,
+                heat: 0,
+                reflected: None,
+                pixels: (0..768).flat_map(|_| (n.between(-80, 20) as i16).to_be_bytes()).collect(),
+                mask: vec![],
+                own: true,
+            };
+            f.mask = published::mask_640(&f);
+            f
+        })
+        .collect()
+}
+
+fn time_frames_640(name: &str, pattern: u8) {
+    let image = room_card();
+    let frames = frames_640(&image, pattern);
+    let (p, r) = (published::load_640(&image).unwrap(), rooted::load_640(&image).unwrap());
+    let (mut a, mut b) = ([0f32; 768], [0u32; 768]);
+    for f in &frames {
+        (a, b) = ([0.0; 768], [0; 768]);
+        rooted::one_pass_640(&r, f, &mut a);
+        assert_eq!(library640::raw_pixels_to_temperatures(f, &mut b).number, 0);
+        assert!(a.iter().zip(&b).all(|(x, y)| x.to_bits() == *y), "the same pixels");
+        assert_eq!(f.mask.iter().filter(|byte| **byte != 0).count(), 384);
+        assert!(a.iter().all(|t| (0.0..60.0).contains(t)), "a room: {a:?}");
+    }
+    let mut v_ir = [0f32; 768];
+    let t_a = published::infrared_640(&p, &frames[0], &mut v_ir);
+    let v_ir_bits = v_ir.map(f32::to_bits);
+    let mut least = [[f64::MAX; 3]; 3];
+    let mut in_turn = [f64::MAX; 3];
+    let mut others = [f64::MAX; 4];
+    let whole: Vec<Frame640> = frames.iter().map(|f| Frame640 { mask: vec![1; 768], ..f.clone() }).collect();
+    let n = frames.len();
+    for _ in 0..ROUNDS {
+        let pass = &mut least[0];
+        keep(&mut pass[0], time(BIGGER_FRAMES, |k| { black_box(published::one_pass_640(&p, black_box(&frames[k % n]), black_box(&mut a))); }));
+        keep(&mut pass[1], time(BIGGER_FRAMES, |k| { black_box(rooted::one_pass_640(&r, black_box(&frames[k % n]), black_box(&mut a))); }));
+        keep(&mut pass[2], time(BIGGER_FRAMES, |k| { black_box(library640::raw_pixels_to_temperatures(black_box(&frames[k % n]), black_box(&mut b))); }));
+        // The same numbers by the crate's two other calls, which its compiled one pass is slower than.
+        keep(&mut in_turn[0], time(BIGGER_FRAMES, |k| { black_box(published::in_turn_640(&p, black_box(&frames[k % n]), black_box(&mut a))); }));
+        keep(&mut in_turn[1], time(BIGGER_FRAMES, |k| { black_box(rooted::in_turn_640(&r, black_box(&frames[k % n]), black_box(&mut a))); }));
+        let infrared = &mut least[1];
+        keep(&mut infrared[0], time(BIGGER_FRAMES, |k| { black_box(published::infrared_640(&p, black_box(&frames[k % n]), black_box(&mut a))); }));
+        keep(&mut infrared[1], time(BIGGER_FRAMES, |k| { black_box(rooted::infrared_640(&r, black_box(&frames[k % n]), black_box(&mut a))); }));
+        keep(&mut infrared[2], time(BIGGER_FRAMES, |k| { black_box(library640::raw_pixels_to_ir_data(black_box(&frames[k % n]), black_box(&mut b))); }));
+        // In place, so each frame's numbers are put there again: of the first frame, so its mask is asked for.
+        let (onward, f) = (&mut least[2], &frames[0]);
+        keep(&mut onward[0], time(BIGGER_FRAMES, |_| { a = v_ir; published::temperatures_640(&p, black_box(f), t_a, black_box(&mut a)); }));
+        keep(&mut onward[1], time(BIGGER_FRAMES, |_| { a = v_ir; rooted::temperatures_640(&r, black_box(f), t_a, black_box(&mut a)); }));
+        keep(&mut onward[2], time(BIGGER_FRAMES, |_| { b = v_ir_bits; black_box(library640::raw_ir_to_temperatures(black_box(f), t_a, black_box(&mut b))); }));
+        let filtered = |f: &Frame640, to: &mut [u32]| library640::filtered_pixels_to_temperatures(f, Some(-54.5), to);
+        keep(&mut others[0], time(BIGGER_FRAMES, |k| { black_box(filtered(black_box(&frames[k % n]), black_box(&mut b))); }));
+        keep(&mut others[1], time(BIGGER_FRAMES, |k| { black_box(library640::raw_pixels_to_ranged_temperatures(black_box(&frames[k % n]), black_box(&mut b))); }));
+        let filtered = |f: &Frame640, to: &mut [u32]| library640::filtered_pixels_to_ranged_temperatures(f, Some(-54.5), to);
+        keep(&mut others[2], time(BIGGER_FRAMES, |k| { black_box(filtered(black_box(&frames[k % n]), black_box(&mut b))); }));
+        keep(&mut others[3], time(BIGGER_FRAMES, |k| { black_box(library640::raw_pixels_to_temperatures(black_box(&whole[k % n]), black_box(&mut b))); }));
+    }
+    line(&format!("one pass, a subpage of the MLX90640 in {name}"), least[0]);
+    in_turn[2] = least[0][2];
+    line("beside the crate's infrared and temperatures in turn", in_turn);
+    let names = ["with a filter's answer", "the second pass", "the second pass with a filter's answer", "all 768 pixels asked for"];
+    for (what, time) in names.iter().zip(others) {
+        println!("{what}, MLX90640 in {name}\tlibrary {time:.0} ns\tover one pass {:.2}", time / least[0][2]);
+    }
+    line(&format!("of it, pixels to infrared, MLX90640 in {name}"), least[1]);
+    line(&format!("of it, infrared to temperature, MLX90640 in {name}"), least[2]);
+}
+
 fn time_words() {
     let words = words();
     let mut least = [[f64::MAX; 3]; 3];
@@ -334,8 +472,11 @@ fn time_words() {
 }
 
 fn main() {
-    println!("least of {ROUNDS} rounds; {FRAMES} frames, {CARDS} cards, {BIGGER_CARDS} of the MLX90640, and once every word in each");
+    let bigger = format!("of the MLX90640 {BIGGER_FRAMES} subpages and {BIGGER_CARDS} cards");
+    println!("least of {ROUNDS} rounds; {FRAMES} frames, {CARDS} cards, {bigger}, and once every word in each");
     time_frames();
+    time_frames_640("chess", 1);
+    time_frames_640("interleave", 0);
     time_cards();
     time_cards_640();
     time_words();
