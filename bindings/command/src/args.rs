@@ -1,4 +1,5 @@
 //! The words of a command line.
+use crate::judge::counted;
 use crate::model::Kind;
 use crate::stop::{plain, Done, Out, Stop};
 use std::ffi::{OsStr, OsString};
@@ -45,7 +46,7 @@ impl Words {
         }
         let (least, most) = command.files;
         if words.files.len() < least || words.files.len() > most {
-            return Err(words.wrong(&format!("{} file names are given; usage: loamchalice {} {}", words.files.len(), command.name, command.usage)));
+            return Err(words.wrong(&format!("{} given; usage: loamchalice {} {}", counted(words.files.len(), "file name"), command.name, command.usage)));
         }
         Ok(words)
     }

@@ -30,10 +30,6 @@ pub fn run(words: &Words, out: &mut Out) -> Done {
                 out.line(format!("{}: word {word} is another than in {}, and is never burnt", wanted.name, present.name))?;
                 return Ok(Found::Bad);
             }
-            Err(Refusal::ShortImage { length }) => {
-                let short = if present.image.len() < crate::model::CARD_BYTES { &present.name } else { &wanted.name };
-                return Err(Stop::said(format!("{short}: too short: {length} bytes of 1664")));
-            }
             Err(other) => return Err(Stop::said(format!("{}: {}", wanted.name, other.text()))),
         };
         match done.step {

@@ -123,7 +123,7 @@ pub fn run(words: &Words, out: &mut Out) -> Done {
         let verdict = Verdict::of(&image, given);
         bad |= verdict.bad();
         if words.has("--json") {
-            lines.push(verdict.json(&shown(&path)));
+            lines.push(verdict.json(&path.to_string_lossy()));
         } else {
             out.line(verdict.line(&shown(&path)))?;
         }

@@ -33,13 +33,14 @@ pub fn run(words: &Words, out: &mut Out) -> Done {
     let limit = words.number("--limit")?;
     let pictures = View::open(words)?.pictures(&words.files[1..])?;
     let names: Vec<String> = words.files[1..].iter().map(|file| shown(file)).collect();
+    let files: Vec<String> = words.files[1..].iter().map(|file| file.to_string_lossy().into_owned()).collect();
     let mut bad = false;
     let mut objects = Vec::new();
     for picture in &pictures {
         let down = limit.and_then(|limit| picture.lamp_down(limit, false));
         bad |= down.is_some() || !picture.troubles.is_empty();
         if words.has("--json") {
-            objects.push(object(picture, &names, limit, down));
+            objects.push(object(picture, &files, limit, down));
             continue;
         }
         if pictures.len() > 1 {
@@ -101,7 +102,7 @@ fn short(cell: Cell, space: usize, digits: usize) -> String {
     }
 }
 
-fn object(picture: &Picture, names: &[String], limit: Option<f32>, down: Option<String>) -> String {
+fn object(picture: &Picture, files: &[String], limit: Option<f32>, down: Option<String>) -> String {
     let width = picture.kind.size().0;
     let spot = |spot: Option<crate::view::Spot>| {
         let fields = |spot: crate::view::Spot| {
@@ -120,7 +121,7 @@ fn object(picture: &Picture, names: &[String], limit: Option<f32>, down: Option<
     };
     let rows = picture.cells.chunks(width).map(|row| json::list(row.iter().map(number)));
     json::object(&[
-        ("files", json::list(names.iter().map(|name| json::string(name)))),
+        ("files", json::list(files.iter().map(|file| json::string(file)))),
         ("first_frame", picture.first.to_string()),
         ("camera", json::string(picture.kind.name())),
         ("subpages", json::list(picture.subpages.iter().map(u8::to_string))),

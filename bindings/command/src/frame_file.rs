@@ -114,3 +114,38 @@ pub fn shots(bytes: &[u8]) -> Result<Vec<Shot>, String> {
         }
     }
 }
+
+#[cfg(test)]
+mod tests {
+    use super::*;
+
+    fn shot(kind: Kind) -> Shot {
+        let ram = RamData { t_a_v_be: 1, t_a_ptat: -2, v_dd_pixel: 3, gain: 4, compensation_pixel: -32768 };
+        let pixels = (0..2 * kind.pixels()).map(|k| k as u8).collect();
+        Shot { kind, subpage: Subpage::One, chess: kind == Kind::Mlx90640, resolution: 3, ram, pixels }
+    }
+
+    #[test]
+    fn what_is_written_is_read() {
+        for (kind, length) in [(Kind::Mlx90641, 408), (Kind::Mlx90640, 1560)] {
+            let bytes = shot(kind).bytes();
+            assert_eq!(bytes.len(), length);
+            assert_eq!(bytes[12..24], [0, 1, 0xFF, 0xFE, 0, 3, 0, 4, 0x80, 0, 0, 0]);
+            assert_eq!(shots(&bytes.repeat(3)), Ok(vec![shot(kind); 3]));
+            assert!((1..length).all(|k| shots(&bytes[..k]).is_err()));
+        }
+    }
+
+    #[test]
+    fn each_byte_of_the_head_counts() {
+        let bytes = shot(Kind::Mlx90641).bytes();
+        for k in (0..12).chain([22, 23]) {
+            let mut other = bytes.clone();
+            other[k] = 0x7F;
+            assert!(shots(&other).is_err(), "byte {k}");
+        }
+        let mut chess = bytes;
+        chess[10] = 1;
+        assert!(shots(&chess).is_err_and(|what| what.contains("pattern 1")));
+    }
+}

@@ -34,3 +34,15 @@ pub fn object(fields: &[(&str, String)]) -> String {
     let fields: Vec<String> = fields.iter().map(|(name, value)| format!("{}:{value}", string(name))).collect();
     format!("{{{}}}", fields.join(","))
 }
+
+#[cfg(test)]
+mod tests {
+    use super::*;
+
+    #[test]
+    fn strings_are_quoted() {
+        assert_eq!(string("a\"b\\c\n\u{1}é"), "\"a\\\"b\\\\c\\u000a\\u0001é\"");
+        assert_eq!(degrees(f32::NAN), "null");
+        assert_eq!(object(&[("a", list(["1".to_string(), degrees(-0.5)])), ("b", or_null(None))]), "{\"a\":[1,-0.50],\"b\":null}");
+    }
+}

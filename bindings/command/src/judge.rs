@@ -102,7 +102,7 @@ fn untold(name: &str, why: &str) -> Stop {
 /// A refusal of a card as a sentence.
 pub fn refused(refusal: Refusal, image: &[u8]) -> String {
     match refusal {
-        Refusal::ShortImage { length } => format!("too short: {length} bytes of {CARD_BYTES}"),
+        Refusal::ShortImage { length } => format!("too short: {} of {CARD_BYTES}", counted(length, "byte")),
         Refusal::DamagedWord { word, bits } => {
             let all = damaged_words(image).len();
             let more = if all > 1 { format!(", and {} more", counted(all - 1, "word")) } else { String::new() };
@@ -148,4 +148,45 @@ pub fn oddities(record: &Record) -> Vec<String> {
     let blind = record.alpha.iter().filter(|alpha| **alpha <= 0.0).count();
     tell(blind > 0, format!("the sensitivity of {} is not above 0", counted(blind, "pixel")));
     odd
+}
+
+#[cfg(test)]
+mod tests {
+    use super::*;
+
+    const SOUND: &[u8] = include_bytes!("../../../cards/sound.bin");
+    const BIGGER: &[u8] = include_bytes!("../../../cards/bigger.bin");
+
+    // Bytes that are any.
+    fn noise(seed: u32, length: usize) -> Vec<u8> {
+        let mut n = seed.wrapping_mul(0x9E37_79B9) | 1;
+        let mut next = || {
+            n ^= n << 13;
+            n ^= n >> 17;
+            n ^= n << 5;
+            (n >> 24) as u8
+        };
+        (0..length).map(|_| next()).collect()
+    }
+
+    #[test]
+    fn a_card_tells_its_camera() {
+        assert_eq!(look(SOUND), Look::Of(Kind::Mlx90641));
+        assert_eq!(look(BIGGER), Look::Of(Kind::Mlx90640));
+        // With two flips in each third word it is still the MLX90641's.
+        let mut worn = SOUND.to_vec();
+        for k in (0..CARD_WORDS).step_by(3) {
+            worn[2 * k] ^= 0x41;
+        }
+        assert_eq!(look(&worn), Look::Of(Kind::Mlx90641));
+        assert_eq!(look(&[0; CARD_BYTES]), Look::Wiped);
+        assert_eq!(look(&[0xFF; CARD_BYTES]), Look::Blank);
+        assert_eq!(look(&SOUND[..CARD_BYTES - 1]), Look::Short);
+    }
+
+    #[test]
+    fn bytes_that_are_any_are_never_taken_for_the_checked_camera() {
+        let taken = (1..2000).filter(|seed| look(&noise(*seed, CARD_BYTES)) != Look::Of(Kind::Mlx90640)).count();
+        assert_eq!(taken, 0);
+    }
 }

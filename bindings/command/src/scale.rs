@@ -16,6 +16,9 @@ const COLOURS: [[u8; 3]; 9] = [
 /// A scale spans at least so many degrees: noise of a room must not be spread over all colours.
 const LEAST: f32 = 30.0;
 
+/// Of ten, for the steps of a scale. Wider scales have steps that are no whole ones.
+const POWERS: [f64; 7] = [0.01, 0.1, 1.0, 10.0, 100.0, 1000.0, 10000.0];
+
 /// The temperatures of the darkest and the lightest colour.
 #[derive(Clone, Copy, Debug, PartialEq)]
 pub struct Scale {
@@ -49,11 +52,11 @@ impl Scale {
 
     /// Temperatures to write beside the scale: whole steps of 1, 2 or 5 times a power of ten, at most twelve.
     pub fn ticks(self) -> Vec<f32> {
-        let rough = (self.high - self.low) / 10.0;
-        let mut powers = std::iter::successors(Some(0.01f32), |power| Some(power * 10.0)).take_while(|power| power.is_finite());
-        let step = powers.find_map(|power| [1.0, 2.0, 5.0].map(|factor| factor * power).into_iter().find(|step| *step >= rough)).unwrap_or(rough);
-        let first = (self.low / step).ceil();
-        (0..12).map(|k| (first + k as f32) * step).filter(|t| t.is_finite() && *t <= self.high).collect()
+        let rough = f64::from(self.high - self.low) / 10.0;
+        let steps = POWERS.iter().flat_map(|power| [1.0, 2.0, 5.0].map(|factor| factor * power));
+        let step = steps.into_iter().find(|step| *step >= rough).unwrap_or(rough);
+        let first = (f64::from(self.low) / step).ceil();
+        (0..12).map(|k| ((first + f64::from(k)) * step) as f32).filter(|t| t.is_finite() && *t <= self.high).collect()
     }
 }
 
@@ -76,4 +79,29 @@ pub fn light(colour: [u8; 3]) -> bool {
 
 pub fn hex(colour: [u8; 3]) -> String {
     format!("#{:02x}{:02x}{:02x}", colour[0], colour[1], colour[2])
+}
+
+#[cfg(test)]
+mod tests {
+    use super::*;
+
+    #[test]
+    fn colours_grow_lighter() {
+        let lightness = |k: usize| {
+            let [r, g, b] = colour(k as f32 / 200.0).map(f32::from);
+            0.2126 * r + 0.7152 * g + 0.0722 * b
+        };
+        assert!((0..200).all(|k| lightness(k) < lightness(k + 1)));
+    }
+
+    #[test]
+    fn no_scale_ends_in_a_panic() {
+        for (low, high) in [(20.0, 50.0), (20.0, 20.5), (-3e38, 3e38), (1e30, 1e30), (f32::MIN, f32::MAX), (0.0, 1e-30)] {
+            let scale = Scale { low, high };
+            assert!(scale.ticks().len() <= 12);
+            assert!([f32::NAN, f32::INFINITY, f32::NEG_INFINITY, low, high, 0.0].iter().all(|t| (0.0..=1.0).contains(&scale.share(*t))));
+        }
+        assert_eq!(Scale { low: 20.0, high: 105.0 }.ticks(), [20.0, 30.0, 40.0, 50.0, 60.0, 70.0, 80.0, 90.0, 100.0]);
+        assert_eq!(Scale { low: 20.0, high: 22.0 }.ticks()[1], 20.2);
+    }
 }

@@ -28,9 +28,9 @@ fn bump(dx: f32, dy: f32, size: f32) -> f32 {
 
 // A palm and four fingers that come from the left; what is no hand is as cold as can be.
 fn hand(x: f32, y: f32, time: f32) -> f32 {
-    let (u, v) = (x - 0.22 - 0.45 * time, y - 0.68);
-    let palm = u * u / (0.14 * 0.14) + v * v / (0.22 * 0.22) < 1.0;
-    let finger = |k: i32| (u - 0.07 * (k as f32 - 1.5)).abs() < 0.024 && (-0.5..0.0).contains(&v);
+    let (u, v) = (x - 0.22 - 0.5 * time, y - 0.68);
+    let palm = u * u / (0.19 * 0.19) + v * v / (0.22 * 0.22) < 1.0;
+    let finger = |k: i32| (u - 0.097 * (k as f32 - 1.5)).abs() < 0.034 && (-0.5..0.0).contains(&v);
     match (palm, (0..4).any(finger)) {
         (true, _) => 33.5 + 1.2 * bump(u, v, 0.1),
         (_, true) => 31.5 + 2.0 * (v + 0.5).max(0.0),

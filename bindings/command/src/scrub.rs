@@ -1,8 +1,9 @@
 //! `scrub`: a card with flipped bits, mended.
 use crate::args::Words;
-use crate::judge::{counted, word, Card};
-use crate::model::Kind;
+use crate::judge::{counted, refused, word, Card};
+use crate::model::{Kind, CARD_BYTES};
 use crate::stop::{shown_target, write, Done, Found, Out, Stop};
+use loamchalice::Refusal;
 
 pub const HELP: &str = "\
 Writes a card of the MLX90641 in which each word that has one flipped bit is its
@@ -19,7 +20,7 @@ does not load. 2: a file can't be read or written, or is too short, or of the ML
 pub fn run(words: &Words, out: &mut Out) -> Done {
     let mut card = checked_card(words, 0)?;
     let before = card.image.clone();
-    let done = loamchalice::scrub(&mut card.image).map_err(|refusal| Stop::said(format!("{}: {}", card.name, crate::judge::refused(refusal, &before))))?;
+    let done = loamchalice::scrub(&mut card.image).map_err(|refusal| Stop::said(format!("{}: {}", card.name, refused(refusal, &before))))?;
     let to_output = words.value("-o").is_some_and(|target| target == "-");
     let mut report = Vec::new();
     for k in done.changed().iter().map(|k| usize::from(*k)) {
@@ -50,6 +51,10 @@ pub fn run(words: &Words, out: &mut Out) -> Done {
 pub fn checked_card(words: &Words, k: usize) -> Result<Card, Stop> {
     let card = Card::open(&words.files[k], words)?;
     match card.kind {
+        _ if card.image.len() < CARD_BYTES => {
+            let short = Refusal::ShortImage { length: card.image.len() };
+            Err(Stop::said(format!("{}: {}", card.name, refused(short, &card.image))))
+        }
         Kind::Mlx90641 => Ok(card),
         Kind::Mlx90640 => {
             Err(Stop::said(format!("{}: the card is taken for an MLX90640's, and this is for the MLX90641's alone (--camera 41 where it is one)", card.name)))

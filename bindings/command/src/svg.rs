@@ -2,7 +2,8 @@
 use crate::scale::{colour, hex, light, Scale};
 use crate::view::{Cell, Picture, Spot};
 
-const FONT: &str = "font-family=\"DejaVu Sans, Verdana, Arial, sans-serif\"";
+/// For all that is drawn.
+pub const FONT: &str = "font-family=\"DejaVu Sans, Verdana, Arial, sans-serif\"";
 const LEFT: usize = 16;
 const TOP: usize = 60;
 const BAR: usize = 20;
@@ -54,11 +55,11 @@ pub fn drawing(picture: &Picture, frame: &Frame) -> String {
     svg += &format!("<rect width=\"{all_wide}\" height=\"{all_high}\" fill=\"#ffffff\"/>\n");
     svg += &format!("<text x=\"{LEFT}\" y=\"24\" font-size=\"16\" font-weight=\"bold\">{}</text>\n", text(frame.heading));
     svg += &format!("<text x=\"{LEFT}\" y=\"46\" font-size=\"13\">{}</text>\n", text(&summary(picture)));
-    for (pixel, cell) in picture.cells.iter().enumerate() {
-        svg += &pixel_of(*cell, LEFT + pixel % columns * side, TOP + pixel / columns * side, side, frame);
-    }
+    svg += &squares(picture, columns, side, frame);
+    svg += &numbers(picture, columns, side, frame.scale);
     svg += &marks(picture, columns, side, frame.limit);
     svg += &bar(wide + 28, high - TOP, frame);
+    svg += &beyond(wide + 28, high, picture, frame.scale);
     svg += &legend(picture, high + 14, frame);
     svg + "</svg>\n"
 }
@@ -80,26 +81,34 @@ fn hatch(number: usize) -> String {
     )
 }
 
-// A square in its colour, with its number.
-fn pixel_of(cell: Cell, x: usize, y: usize, side: usize, frame: &Frame) -> String {
-    let square = |fill: &str| format!("<rect x=\"{x}\" y=\"{y}\" width=\"{side}\" height=\"{side}\" fill=\"{fill}\"/>\n");
-    let t = match cell {
-        Cell::Unwritten => return square("#e4e4e4"),
-        Cell::Lost => return square(&format!("url(#hatch{})", frame.number)),
-        Cell::Degrees(t) => t,
+// Each pixel's square in its colour.
+fn squares(picture: &Picture, columns: usize, side: usize, frame: &Frame) -> String {
+    let square = |(pixel, cell): (usize, &Cell)| {
+        let fill = match cell {
+            Cell::Unwritten => "#e4e4e4".to_string(),
+            Cell::Lost => format!("url(#hatch{})", frame.number),
+            Cell::Degrees(t) => hex(frame.scale.colour(*t)),
+        };
+        format!("<path d=\"M{} {}h{side}v{side}h-{side}z\" fill=\"{fill}\"/>\n", LEFT + pixel % columns * side, TOP + pixel / columns * side)
     };
-    let colour = frame.scale.colour(t);
+    picture.cells.iter().enumerate().map(square).collect()
+}
+
+// Their degrees, in an ink that is read on the colour. A number that has no room is left out.
+fn numbers(picture: &Picture, columns: usize, side: usize, scale: Scale) -> String {
     let (digits, size) = if side > 30 { (1, 13) } else { (0, 10) };
-    let number = format!("{t:.digits$}");
-    if number.len() > 5 {
-        return square(&hex(colour));
-    }
-    let ink = if light(colour) { "#000000" } else { "#ffffff" };
-    let (middle, base) = (x + side / 2, y + side / 2 + size / 3);
-    format!(
-        "{}<text x=\"{middle}\" y=\"{base}\" font-size=\"{size}\" text-anchor=\"middle\" fill=\"{ink}\" fill-opacity=\"0.85\">{number}</text>\n",
-        square(&hex(colour))
-    )
+    let written = |dark: bool, ink: &str| {
+        let mut group = format!("<g font-size=\"{size}\" text-anchor=\"middle\" fill=\"{ink}\" fill-opacity=\"0.85\">\n");
+        for spot in picture.degrees().filter(|spot| light(scale.colour(spot.degrees)) == dark) {
+            let (x, y) = (LEFT + spot.pixel % columns * side + side / 2, TOP + spot.pixel / columns * side + side / 2 + size / 3);
+            let number = format!("{:.digits$}", spot.degrees);
+            if number.len() <= 5 {
+                group += &format!("<text x=\"{x}\" y=\"{y}\">{number}</text>\n");
+            }
+        }
+        group + "</g>\n"
+    };
+    written(false, "#ffffff") + &written(true, "#000000")
 }
 
 // A frame around a pixel: white inside black, so that it shows on any colour.
@@ -152,6 +161,15 @@ fn bar(x: usize, high: usize, frame: &Frame) -> String {
         bar += &format!("<text x=\"{label}\" y=\"{:.1}\" font-size=\"12\" font-weight=\"bold\" fill=\"#0b5fff\">limit {limit} °C</text>\n", at + 4.0);
     }
     bar
+}
+
+// That a fixed scale does not reach over all pixels.
+fn beyond(x: usize, bottom: usize, picture: &Picture, scale: Scale) -> String {
+    let note = |y: usize, words: &str| format!("<text x=\"{x}\" y=\"{y}\" font-size=\"11\">{words}</text>\n");
+    let (hotter, colder) = (picture.degrees().any(|spot| spot.degrees > scale.high), picture.degrees().any(|spot| spot.degrees < scale.low));
+    let above = hotter.then(|| note(TOP - 8, "and hotter"));
+    let below = colder.then(|| note(bottom + 14, "and colder"));
+    above.into_iter().chain(below).collect()
 }
 
 // What the marks mean, those that are there.

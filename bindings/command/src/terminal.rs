@@ -8,9 +8,11 @@ const RAMP: &[u8; 10] = b" .:-=+*#%@";
 /// Lines of the picture. The MLX90641's pixels have room for their degrees.
 pub fn lines(picture: &Picture, scale: Scale, coloured: bool) -> Vec<String> {
     let (width, _) = picture.kind.size();
-    let draw = |cell: &Cell| if coloured { colours(*cell, scale, width > 16) } else { characters(*cell, scale) };
-    let end = if coloured { "\x1b[0m" } else { "" };
-    picture.cells.chunks(width).map(|row| row.iter().map(draw).collect::<String>().trim_end().to_string() + end).collect()
+    let line = |row: &[Cell]| match coloured {
+        true => row.iter().map(|cell| colours(*cell, scale, width > 16)).collect::<String>() + "\x1b[0m",
+        false => row.iter().map(|cell| characters(*cell, scale)).collect::<String>().trim_end().to_string(),
+    };
+    picture.cells.chunks(width).map(line).collect()
 }
 
 // 24-bit colours: of the background a pixel's, of the letters one that is read on it.

@@ -2,7 +2,7 @@
 use crate::args::Words;
 use crate::fields::field;
 use crate::judge::{checked, refused, word, Card};
-use crate::model::{Kind, CARD_WORDS};
+use crate::model::{Kind, CARD_BYTES, CARD_WORDS};
 use crate::stop::{plain, read, shown, shown_target, write, Done, Found, Out, Stop};
 use std::ffi::OsStr;
 
@@ -34,8 +34,9 @@ no word, there are not 832, or a file can't be read or written.";
 
 pub fn run_words(words: &Words, out: &mut Out) -> Done {
     let card = Card::open(&words.files[0], words)?;
-    if card.image.len() < 2 * CARD_WORDS {
-        return Err(Stop::said(format!("{}: too short: {} bytes of {}", card.name, card.image.len(), 2 * CARD_WORDS)));
+    if card.image.len() < CARD_BYTES {
+        let short = loamchalice::Refusal::ShortImage { length: card.image.len() };
+        return Err(Stop::said(format!("{}: {}", card.name, refused(short, &card.image))));
     }
     let numbers = match card.kind {
         Kind::Mlx90640 => (0..CARD_WORDS).map(|k| format!("0x{:04x}", word(&card.image, k))).collect(),
