@@ -74,7 +74,7 @@ pub fn colour(share: f32) -> [u8; 3] {
 /// Whether black is read better than white on a colour.
 pub fn light(colour: [u8; 3]) -> bool {
     let [r, g, b] = colour.map(f32::from);
-    0.299 * r + 0.587 * g + 0.114 * b > 140.0
+    0.299 * r + 0.587 * g + 0.114 * b > 117.0
 }
 
 pub fn hex(colour: [u8; 3]) -> String {

@@ -98,7 +98,7 @@ fn squares(picture: &Picture, columns: usize, side: usize, frame: &Frame) -> Str
 fn numbers(picture: &Picture, columns: usize, side: usize, scale: Scale) -> String {
     let (digits, size) = if side > 30 { (1, 13) } else { (0, 10) };
     let written = |dark: bool, ink: &str| {
-        let mut group = format!("<g font-size=\"{size}\" text-anchor=\"middle\" fill=\"{ink}\" fill-opacity=\"0.85\">\n");
+        let mut group = format!("<g font-size=\"{size}\" text-anchor=\"middle\" fill=\"{ink}\" fill-opacity=\"0.9\">\n");
         for spot in picture.degrees().filter(|spot| light(scale.colour(spot.degrees)) == dark) {
             let (x, y) = (LEFT + spot.pixel % columns * side + side / 2, TOP + spot.pixel / columns * side + side / 2 + size / 3);
             let number = format!("{:.digits$}", spot.degrees);
