@@ -41,7 +41,9 @@ impl Words {
             } else if text == "-" || !text.starts_with('-') {
                 words.files.push(word.clone());
             } else {
-                words.option(command, &text, &mut rest)?;
+                // Only a value that is a word of its own, as of `-o F`, may be other than Unicode.
+                let text = word.to_str().ok_or_else(|| words.wrong(&format!("there is no option {}", plain(word))))?;
+                words.option(command, text, &mut rest)?;
             }
         }
         let (least, most) = command.files;

@@ -16,13 +16,13 @@ the card again and plan from what is found.
   --camera 41|40   the camera; without it the cards tell. Only the MLX90641's words
                    have this order
 
-Status 0: planned, and the wanted card loads. 1: it does not load, or differs from
-PRESENT in a word that is never burnt (0 to 15, 19, 20). 2: a file can't be read or
-is too short.";
+Status 0: planned, and the wanted card loads. 1: it does not load or looks wrong, or
+differs from PRESENT in a word that is never burnt (0 to 15, 19, 20). 2: a file can't
+be read or is too short.";
 
 pub fn run(words: &Words, out: &mut Out) -> Done {
     let (mut present, wanted) = (checked_card(words, 0)?, checked_card(words, 1)?);
-    let unloaded = wanted.warn_unless_it_loads();
+    let bad = wanted.warn_if_bad();
     for number in 0..=MOST_STEPS {
         let done = match burn(&mut present.image, &wanted.image) {
             Ok(done) => done,
@@ -41,5 +41,5 @@ pub fn run(words: &Words, out: &mut Out) -> Done {
             }
         }
     }
-    Ok(Found::bad_if(unloaded))
+    Ok(Found::bad_if(bad))
 }

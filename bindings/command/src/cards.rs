@@ -1,7 +1,7 @@
 //! `cards`: a line for each card.
 use crate::args::Words;
 use crate::json;
-use crate::judge::{counted, damaged_words, look, oddities, refused, Look, MOST_BYTES};
+use crate::judge::{contradicted, counted, damaged_words, look, oddities, refused, Look, MOST_BYTES};
 use crate::model::Kind;
 use crate::stop::{read, reason, shown, Done, Found, Out, Stop};
 use loamchalice::Refusal;
@@ -53,7 +53,12 @@ impl Verdict {
             (Look::Short, _) => Verdict::new(given, "short", refused(Refusal::ShortImage { length: image.len() }, image)),
             (Look::Wiped, _) => Verdict::new(given, "wiped", "wiped: every byte is zero"),
             (Look::Blank, _) => Verdict::new(given, "blank", "blank: every byte is 0xFF"),
-            (_, Some(kind)) | (Look::Of(kind), None) => Verdict::loaded(image, kind),
+            (seen, Some(kind)) => {
+                let mut verdict = Verdict::loaded(image, kind);
+                verdict.sentence += &contradicted(given, seen).map(|other| format!(" ({other})")).unwrap_or_default();
+                verdict
+            }
+            (Look::Of(kind), None) => Verdict::loaded(image, kind),
             (Look::Unknown, None) => Verdict::new(None, "unknown", "the words do not tell the camera, say --camera 41 or --camera 40"),
         }
     }

@@ -23,7 +23,7 @@ make one picture.
                    hottest, coldest, troubles, lamp, why, temperatures by row. A
                    pixel that is lost or not written is null; lost has its number
 
-In the grid ?? is a lost pixel, and . one that is not written.
+In the grid ?? is a lost pixel, . one that is not written, hi and lo what has no room.
 
 Status 0: good; with --limit the lamp may stay up in every picture. 1: a frame is
 refused or has a warning, or the lamp must go down. 2: a file can't be read, is no

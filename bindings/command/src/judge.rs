@@ -1,7 +1,7 @@
 //! Which camera a card is of, and what is to be said of it.
 use crate::args::Words;
 use crate::model::{Kind, Model, Record, CARD_BYTES, CARD_WORDS};
-use crate::stop::{read, shown, Stop};
+use crate::stop::{read, shown, tell, Stop};
 use loamchalice::{check_word, scrub, Checked, Refusal};
 use std::ffi::OsStr;
 
@@ -24,8 +24,8 @@ pub enum Look {
     Unknown,
 }
 
-/// Only the MLX90641's words have check bits: of data that are any, one word in 32 has the right ones. So a card is the MLX90641's where at least half of its words are
-/// codewords, and the MLX90640's where at most a quarter are. Words 0 and 0xFFFF, as on wiped and blank cards of both, are not counted.
+/// Only the MLX90641's words have check bits: of data that are any, one word in 32 has the right ones. So a card is the MLX90641's where at least half of its
+/// words are codewords, and the MLX90640's where at most a quarter are. Words 0 and 0xFFFF, as on wiped and blank cards of both, are not counted.
 pub fn look(image: &[u8]) -> Look {
     let Some(card) = image.get(..CARD_BYTES) else { return Look::Short };
     if card.iter().all(|byte| *byte == 0) {
@@ -69,7 +69,11 @@ impl Card {
 
     /// Where neither tells the camera there is no card.
     pub fn of(name: String, image: Vec<u8>, given: Option<Kind>) -> Result<Self, Stop> {
-        let kind = match (given, look(&image)) {
+        let seen = look(&image);
+        if let Some(other) = contradicted(given, seen) {
+            tell(&format!("{name}: warning: {other}"));
+        }
+        let kind = match (given, seen) {
             (Some(kind), _) | (None, Look::Of(kind)) => kind,
             // The load refuses it, whatever the camera.
             (None, Look::Short) => Kind::Mlx90641,
@@ -85,13 +89,24 @@ impl Card {
         self.kind.load(&self.image).map_err(|refusal| Stop::said(format!("{}: {}", self.name, refused(refusal, &self.image))))
     }
 
-    /// A warning where the card does not load, and whether that is so.
-    pub fn warn_unless_it_loads(&self) -> bool {
-        let refusal = self.kind.load(&self.image).err();
-        if let Some(refusal) = refusal {
-            crate::stop::tell(&format!("{}: warning: the card does not load: {}", self.name, refused(refusal, &self.image)));
+    /// A warning where the card does not load or looks wrong, and whether that is so.
+    pub fn warn_if_bad(&self) -> bool {
+        let what = match self.kind.load(&self.image) {
+            Ok(camera) => oddities(&camera.record()).first().cloned(),
+            Err(refusal) => Some(format!("the card does not load: {}", refused(refusal, &self.image))),
+        };
+        if let Some(what) = &what {
+            tell(&format!("{}: warning: {what}", self.name));
         }
-        refusal.is_some()
+        what.is_some()
+    }
+}
+
+/// Where `--camera` says another than the card.
+pub fn contradicted(given: Option<Kind>, seen: Look) -> Option<String> {
+    match (given, seen) {
+        (Some(given), Look::Of(kind)) if given != kind => Some(format!("--camera says {}, and the words look like an {}'s", given.name(), kind.name())),
+        _ => None,
     }
 }
 
@@ -127,26 +142,26 @@ pub fn counted(n: usize, what: &str) -> String {
 /// What no load refuses and no sound card has.
 pub fn oddities(record: &Record) -> Vec<String> {
     let mut odd = Vec::new();
-    let mut tell = |wrong: bool, what: String| {
+    let mut note = |wrong: bool, what: String| {
         if wrong {
             odd.push(what);
         }
     };
-    tell(!USUAL_GAIN.contains(&record.gain), format!("the gain is {}, far from the usual 6,000", record.gain));
-    tell(record.k_v_dd == 0, "K_VDD is 0, so every frame is refused".to_string());
-    tell(record.k_t_ptat == 0.0, "K_TPTAT is 0, so every frame is refused".to_string());
+    note(!USUAL_GAIN.contains(&record.gain), format!("the gain is {}, far from the usual 6,000", record.gain));
+    note(record.k_v_dd == 0, "K_VDD is 0, so every frame is refused".to_string());
+    note(record.k_t_ptat == 0.0, "K_TPTAT is 0, so every frame is refused".to_string());
     if let Some(emissivity) = record.emissivity {
-        tell(!(emissivity > 0.0 && emissivity <= 1.0), format!("the emissivity is {emissivity}, and should be above 0 and at most 1"));
+        note(!(emissivity > 0.0 && emissivity <= 1.0), format!("the emissivity is {emissivity}, and should be above 0 and at most 1"));
     }
     if let Some(corner) = (1..record.corners.len()).find(|k| record.corners[*k] <= record.corners[k - 1]) {
-        tell(true, format!("corner {corner} is not above the one before it, so the second pass is refused"));
+        note(true, format!("corner {corner} is not above the one before it, so the second pass is refused"));
     }
     let pixels = record.alpha.len();
     if let Some(at) = record.offsets.iter().position(|offset| i16::try_from(*offset).is_err()) {
-        tell(true, format!("the offset of pixel {} is {}, which no reading reaches", at % pixels, record.offsets[at]));
+        note(true, format!("the offset of pixel {} is {}, which no reading reaches", at % pixels, record.offsets[at]));
     }
     let blind = record.alpha.iter().filter(|alpha| **alpha <= 0.0).count();
-    tell(blind > 0, format!("the sensitivity of {} is not above 0", counted(blind, "pixel")));
+    note(blind > 0, format!("the sensitivity of {} is not above 0", counted(blind, "pixel")));
     odd
 }
 

@@ -1,4 +1,5 @@
-//! `loamchalice`: cards and frames of the heat cameras MLX90641 and MLX90640, for a person. What is worked out is the library's; this reads files, shows and tells.
+//! `loamchalice`: cards and frames of the heat cameras MLX90641 and MLX90640, for a person. What is worked out is the library's; this reads
+//! files, shows and tells.
 mod args;
 mod burn_plan;
 mod card;
@@ -174,6 +175,9 @@ fn overview() -> String {
     for command in &COMMANDS {
         text += &format!("  {:<10} {}\n", command.name, command.brief);
     }
-    text
-        + "\n`loamchalice COMMAND --help` tells more. A file name of - is standard input or output.\nStatus 0: good. 1: something that was looked at is bad, or a lamp must go down.\n2: a wrong word, or reading or writing failed; without a message where the reader of\nstandard output has gone."
+    text + "
+`loamchalice COMMAND --help` tells more. A file name of - is standard input or output.
+Status 0: good. 1: something that was looked at is bad, or a lamp must go down.
+2: a wrong word, or reading or writing failed; without a message where the reader of
+standard output has gone."
 }

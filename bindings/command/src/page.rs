@@ -6,8 +6,14 @@ use crate::view::{Cell, Picture};
 /// So many fit a page.
 pub const MOST: usize = 200;
 
-const STYLE: &str =
-    "body{font-family:'DejaVu Sans',Verdana,Arial,sans-serif;margin:24px;color:#222}a{color:inherit}figure{margin:24px 0}.small{display:flex;flex-wrap:wrap;gap:8px}.small a{font-size:11px;text-align:center;text-decoration:none}.down{color:#0b5fff;font-weight:bold}";
+const STYLE: &str = "
+body { font-family: 'DejaVu Sans', Verdana, Arial, sans-serif; margin: 24px; color: #222 }
+a { color: inherit }
+figure { margin: 24px 0 }
+.small { display: flex; flex-wrap: wrap; gap: 8px }
+.small a { font-size: 11px; text-align: center; text-decoration: none }
+.down { color: #0b5fff; font-weight: bold }
+";
 
 pub fn page(heading: &str, pictures: &[Picture], scale: Scale, limit: Option<f32>) -> String {
     let mut html = format!(
@@ -62,7 +68,8 @@ fn strip(pictures: &[Picture], limit: Option<f32>) -> String {
     let scale = Scale::of(pictures, limit, None, None);
     let x = |k: usize| LEFT + 12.0 + (WIDE - LEFT - 110.0) * k as f32 / (pictures.len() - 1).max(1) as f32;
     let y = |t: f32| 12.0 + (1.0 - scale.share(t)) * (HIGH - 36.0);
-    let mut svg = format!("<svg xmlns=\"http://www.w3.org/2000/svg\" width=\"{WIDE}\" height=\"{HIGH}\" viewBox=\"0 0 {WIDE} {HIGH}\" role=\"img\" font-size=\"11\" {FONT}>\n<title>hottest and coldest over time</title>\n");
+    let mut svg = format!("<svg width=\"{WIDE}\" height=\"{HIGH}\" viewBox=\"0 0 {WIDE} {HIGH}\" role=\"img\" font-size=\"11\" {FONT}>\n");
+    svg += "<title>hottest and coldest over time</title>\n";
     for t in scale.ticks() {
         let at = y(t);
         svg += &format!("<path d=\"M{LEFT} {at:.1} H{:.1}\" stroke=\"#dddddd\"/><text x=\"4\" y=\"{:.1}\">{t} °C</text>\n", WIDE - 92.0, at + 4.0);

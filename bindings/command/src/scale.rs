@@ -1,4 +1,5 @@
-//! Colours for temperatures. They are those of matplotlib's inferno, which grow lighter from end to end, so that their order is plain in grey and to the colour-blind.
+//! Colours for temperatures. They are those of matplotlib's inferno, which grow lighter from end to end, so that their order is plain in grey and to the
+//! colour-blind.
 use crate::view::Picture;
 
 const COLOURS: [[u8; 3]; 9] = [

@@ -15,7 +15,8 @@ Three flips look like one flip of another codeword, so keep the card as it was.
                    no check bits, so there is nothing to mend
 
 Status 0: no damaged word, and the card loads. 1: a damaged word stays, or the card
-does not load. 2: a file can't be read or written, or is too short, or of the MLX90640.";
+does not load or looks wrong. 2: a file can't be read or written, or is too short, or of
+the MLX90640.";
 
 pub fn run(words: &Words, out: &mut Out) -> Done {
     let mut card = checked_card(words, 0)?;
@@ -43,8 +44,8 @@ pub fn run(words: &Words, out: &mut Out) -> Done {
         write(target, &card.image, out)?;
         card.name = shown_target(target);
     }
-    let unloaded = damaged == 0 && card.warn_unless_it_loads();
-    Ok(Found::bad_if(damaged > 0 || unloaded))
+    let odd = damaged == 0 && card.warn_if_bad();
+    Ok(Found::bad_if(damaged > 0 || odd))
 }
 
 /// The card that a word names, which must be the MLX90641's.

@@ -77,7 +77,8 @@ pub fn summary(picture: &Picture) -> String {
 // Lines from corner to corner, for lost pixels.
 fn hatch(number: usize) -> String {
     format!(
-        "<defs><pattern id=\"hatch{number}\" width=\"6\" height=\"6\" patternUnits=\"userSpaceOnUse\" patternTransform=\"rotate(45)\"><rect width=\"6\" height=\"6\" fill=\"#ffffff\"/><rect width=\"2\" height=\"6\" fill=\"#1f6fb2\"/></pattern></defs>\n"
+        "<defs><pattern id=\"hatch{number}\" width=\"6\" height=\"6\" patternUnits=\"userSpaceOnUse\" patternTransform=\"rotate(45)\">\
+         <rect width=\"6\" height=\"6\" fill=\"#ffffff\"/><rect width=\"2\" height=\"6\" fill=\"#1f6fb2\"/></pattern></defs>\n"
     )
 }
 
@@ -157,7 +158,9 @@ fn bar(x: usize, high: usize, frame: &Frame) -> String {
     }
     if let Some(limit) = frame.limit.filter(|limit| (frame.scale.low..=frame.scale.high).contains(limit)) {
         let (at, left, long) = (y(limit), x - 6, BAR + 12);
-        bar += &format!("<path d=\"M{left} {at:.1} h{long}\" stroke=\"#ffffff\" stroke-width=\"5\"/><path d=\"M{left} {at:.1} h{long}\" stroke=\"#0b5fff\" stroke-width=\"3\"/>");
+        for (colour, width) in [("#ffffff", 5), ("#0b5fff", 3)] {
+            bar += &format!("<path d=\"M{left} {at:.1} h{long}\" stroke=\"{colour}\" stroke-width=\"{width}\"/>");
+        }
         bar += &format!("<text x=\"{label}\" y=\"{:.1}\" font-size=\"12\" font-weight=\"bold\" fill=\"#0b5fff\">limit {limit} °C</text>\n", at + 4.0);
     }
     bar

@@ -89,7 +89,8 @@ impl Picture {
         format!("{}, {which}, {how_many} written, {} lost", self.kind.name(), self.lost().len())
     }
 
-    /// Why the lamp must go down under this limit; None where it may stay up. Every pixel must have been seen, or where `half` holds those of the frame's subpage.
+    /// Why the lamp must go down under this limit; None where it may stay up. Every pixel must have been seen, or, where `half` holds, those of the frame's
+    /// subpage.
     pub fn lamp_down(&self, limit: f32, half: bool) -> Option<String> {
         if !environment_is_default() {
             return Some("the floating-point environment is not the default one".to_string());
@@ -196,5 +197,38 @@ impl View {
             }
         }
         Ok(pictures)
+    }
+}
+
+#[cfg(test)]
+mod tests {
+    use super::*;
+    use loamchalice::{RamData, Subpage};
+
+    fn picture(kind: Kind, cells: &[(usize, Cell)]) -> Picture {
+        let ram = RamData { t_a_v_be: 0, t_a_ptat: 0, v_dd_pixel: 0, gain: 0, compensation_pixel: 0 };
+        let shot = Shot { kind, subpage: Subpage::Zero, chess: false, resolution: 2, ram, pixels: Vec::new() };
+        let mut picture = Picture::new(&shot, 1);
+        picture.cells.fill(Cell::Degrees(20.0));
+        cells.iter().for_each(|(pixel, cell)| picture.cells[*pixel] = *cell);
+        picture
+    }
+
+    #[test]
+    fn the_lamp_goes_down_where_it_must() {
+        let down = |cells: &[(usize, Cell)], half: bool| picture(Kind::Mlx90640, cells).lamp_down(60.0, half);
+        assert_eq!(down(&[], false), None);
+        assert_eq!(down(&[(767, Cell::Degrees(59.999))], false), None);
+        for degrees in [60.0, 61.0, f32::INFINITY] {
+            assert!(down(&[(767, Cell::Degrees(degrees))], false).is_some_and(|why| why.contains("row 23, column 31")), "{degrees}");
+        }
+        assert_eq!(down(&[(0, Cell::Lost)], true), Some("1 pixel lost".to_string()));
+        assert!(down(&[(0, Cell::Unwritten)], false).is_some());
+        assert_eq!(down(&[(0, Cell::Unwritten)], true), None);
+        let none: Vec<(usize, Cell)> = (0..768).map(|pixel| (pixel, Cell::Unwritten)).collect();
+        assert!(down(&none, true).is_some());
+        let mut troubled = picture(Kind::Mlx90641, &[]);
+        troubled.troubles.push("a warning".to_string());
+        assert_eq!(troubled.lamp_down(60.0, false), Some("a warning".to_string()));
     }
 }

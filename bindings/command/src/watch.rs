@@ -23,7 +23,8 @@ the lamp goes down where one subpage stays away.
   --filter         the average of the last 16 readings of the compensation pixel
   --ranged         the second pass, for scenes beyond 0 to 80 degrees
   --from T, --to T the ends of the colours: 15 degrees and the limit without them
-  --color W        auto (if standard output is a terminal), always, never
+  --color W        auto (if standard output is a terminal and NO_COLOR is not set),
+                   always, never
   --lines          a line for each frame, and no picture
   --emissivity E   in place of the card's, above 0 and at most 1
   --reflected T    the reflected temperature, if it is known
@@ -56,7 +57,7 @@ pub fn run(words: &Words, out: &mut Out) -> Done {
         return Err(words.wrong("--from must be below --to"));
     }
     let coloured = match words.choice("--color", &["auto", "always", "never"])? {
-        "auto" => io::stdout().is_terminal(),
+        "auto" => io::stdout().is_terminal() && std::env::var_os("NO_COLOR").is_none(),
         word => word == "always",
     };
     let view = View::open(words)?;

@@ -29,8 +29,8 @@ The MLX90641's check bits are worked out.
   -o F             the file to write
   --camera 41|40   the camera; else the remark, else the MLX90641
 
-Status 0: written, and the card loads. 1: written, and it does not load. 2: a line is
-no word, there are not 832, or a file can't be read or written.";
+Status 0: written, and the card loads. 1: written, and it does not load or looks wrong.
+2: a line is no word, there are not 832, or a file can't be read or written.";
 
 pub fn run_words(words: &Words, out: &mut Out) -> Done {
     let card = Card::open(&words.files[0], words)?;
@@ -80,8 +80,8 @@ pub fn run_write(words: &Words, out: &mut Out) -> Done {
         Kind::Mlx90641 => coded(&numbers).map_err(|refusal| Stop::said(format!("{}: {}", shown(path), refusal.text())))?,
     };
     write(target, &image, out)?;
-    let unloaded = Card { name: shown_target(target), image, kind }.warn_unless_it_loads();
-    Ok(Found::bad_if(unloaded))
+    let bad = Card { name: shown_target(target), image, kind }.warn_if_bad();
+    Ok(Found::bad_if(bad))
 }
 
 // The camera that a remark before the first word names.
