@@ -1,5 +1,5 @@
-//! The built program on the cards and on simulated frames. Each file of tests/expected, and docs/COMMAND.md with its `console` blocks, has shell lines behind `$ `
-//! and what they must write. With LOAMCHALICE_WRITE=1 the files are written anew, to be looked at before they are kept.
+//! The built program on the cards and on simulated frames. Each file of tests/expected, and docs/COMMAND.md with its `console` blocks, has lines of shell behind
+//! `$ ` and what they must write. With LOAMCHALICE_WRITE=1 the files are written anew, to be looked at before they are kept.
 use std::fs::{self, File};
 use std::io::Write;
 use std::os::unix::fs::symlink;
