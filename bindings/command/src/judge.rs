@@ -200,6 +200,18 @@ mod tests {
     }
 
     #[test]
+    fn few_words_tell_no_camera() {
+        let mut card = vec![0; CARD_BYTES];
+        for k in 256..271 {
+            card[2 * k..2 * k + 2].copy_from_slice(&SOUND[2 * k..2 * k + 2]);
+        }
+        assert!((256..272).all(|k| ![0, 0xFFFF].contains(&word(SOUND, k))));
+        assert_eq!(look(&card), Look::Unknown);
+        card[542..544].copy_from_slice(&SOUND[542..544]);
+        assert_eq!(look(&card), Look::Of(Kind::Mlx90641));
+    }
+
+    #[test]
     fn bytes_that_are_any_are_never_taken_for_the_checked_camera() {
         let taken = (1..2000).filter(|seed| look(&noise(*seed, CARD_BYTES)) != Look::Of(Kind::Mlx90640)).count();
         assert_eq!(taken, 0);

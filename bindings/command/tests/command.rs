@@ -255,28 +255,38 @@ fn a_closed_pipe_is_quiet() {
     }
 }
 
+/// A shell's way to a full disk: no file may grow, and writing says so.
+const FULL: &str = "trap '' XFSZ; ulimit -f 0;";
+
+// No device is ever named behind `-o` here: a program that is wrong, and run by root, would put a file in its place.
 #[test]
 fn a_full_disk_is_an_error_and_costs_no_file() {
     let room = with_good_frame("full");
-    for words in [
-        &["simulate", "cards/sound.bin", "-o", "/dev/full"][..],
-        &["scrub", "cards/mended.bin", "-o", "/dev/full"],
-        &["write", "cards/sound.txt", "-o", "/dev/full"],
-    ] {
-        let output = run(&room, words, b"");
-        assert_eq!((output.status.code(), String::from_utf8_lossy(&output.stderr).as_ref()), (Some(2), "/dev/full: no space left on device\n"));
+    fs::write(room.join("kept"), b"kept").unwrap();
+    for line in ["simulate cards/sound.bin -o kept", "scrub cards/sound.bin -o kept", "write cards/sound.txt -o kept", "scrub cards/sound.bin -o new"] {
+        let target = line.rsplit(' ').next().unwrap();
+        let made = shell(&room, &format!("{FULL} loamchalice {line}; echo $?"));
+        assert!(made.ends_with(&format!("{target}: file too large\n2\n")), "{line}: {made}");
     }
+    assert_eq!(fs::read(room.join("kept")).unwrap(), b"kept");
+    let mut left: Vec<String> = fs::read_dir(&room).unwrap().map(|entry| entry.unwrap().file_name().to_string_lossy().into_owned()).collect();
+    left.sort();
+    assert_eq!(left, ["cards", "good.frm", "kept"]);
     for line in ["cards cards", "card cards/sound.bin", "frame cards/sound.bin good.frm", "words cards/sound.bin", "simulate cards/sound.bin -o -", "--help"] {
         assert_eq!(shell(&room, &format!("loamchalice {line} > /dev/full; echo $?")), "standard output: no space left on device\n2\n", "{line}");
     }
     assert_eq!(shell(&room, "loamchalice watch cards/sound.bin < good.frm > /dev/full; echo $?"), "standard output: no space left on device\n2\n");
-    // What stood there stays where the folder takes no new file.
-    fs::write(room.join("kept.bin"), b"kept").unwrap();
-    let limited = shell(&room, "ulimit -f 0; loamchalice scrub cards/mended.bin -o kept.bin > /dev/null; echo $?");
-    assert!(!limited.contains("panicked"), "{limited}");
-    assert_eq!(fs::read(room.join("kept.bin")).unwrap(), b"kept");
-    let left: Vec<_> = fs::read_dir(&room).unwrap().filter(|entry| entry.as_ref().unwrap().file_name().to_string_lossy().ends_with(".part")).collect();
-    assert!(left.len() <= 1);
+}
+
+/// What is no plain file is written to, and stays what it is.
+#[test]
+fn a_pipe_by_name_is_written_to() {
+    let room = with_good_frame("named");
+    let line = "mkfifo pipe; timeout 10 cat pipe > got & loamchalice simulate cards/sound.bin -o pipe; wait; cmp got good.frm; test -p pipe; echo $?";
+    assert_eq!(shell(&room, line), "pipe: 1 frame of an MLX90641, 408 bytes\n0\n");
+    // A link stays one, and what it leads to is replaced.
+    let line = "echo old > file; ln -s file link; loamchalice simulate cards/sound.bin -o link; cmp file good.frm; test -L link; echo $?";
+    assert_eq!(shell(&room, line), "link: 1 frame of an MLX90641, 408 bytes\n0\n");
 }
 
 #[test]
