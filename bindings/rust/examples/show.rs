@@ -1,6 +1,6 @@
 //! Shows a card to a person, and a frame as a picture: temperatures as a grid, and as an image file that any viewer opens.
 //!   cargo run --offline --example show -- CARD [FRAME [PICTURE.ppm]]
-//! FRAME, or - for none, has the five RAM words of `RamData` in its order and then 192 pixels, all big-endian: 394 bytes. Without one a made-up frame of a warm spot is shown.
+//! FRAME, or - for none, is an MLX90641's frame file (docs/FRAMES.md), as `loamchalice simulate` writes it. Without one a made-up frame of a warm spot is shown.
 use loamchalice::{scrub, Calibration, RamData, Subpage};
 use std::error::Error;
 
@@ -45,7 +45,7 @@ fn picture_file(picture: &[f32; 192]) -> Vec<u8> {
     file
 }
 
-fn frame_of(path: Option<&String>) -> Result<(RamData, [u8; 384]), Box<dyn Error>> {
+fn frame_of(path: Option<&String>) -> Result<(RamData, Subpage, [u8; 384]), Box<dyn Error>> {
     let Some(path) = path else {
         let ram = RamData { t_a_v_be: 19442, t_a_ptat: 1711, v_dd_pixel: -13115, gain: 6391, compensation_pixel: -105 };
         let mut pixels = [0; 384];
@@ -53,15 +53,17 @@ fn frame_of(path: Option<&String>) -> Result<(RamData, [u8; 384]), Box<dyn Error
             let (x, y) = (i as i32 % 16 - 10, i as i32 / 16 - 4);
             pair.copy_from_slice(&((-620 + 900 / (1 + x * x + y * y)) as i16).to_be_bytes());
         }
-        return Ok((ram, pixels));
+        return Ok((ram, Subpage::Zero, pixels));
     };
     let bytes = std::fs::read(path).map_err(|error| format!("{path}: {error}"))?;
-    if bytes.len() != 394 {
-        return Err(format!("{path} has {} bytes, a frame 394", bytes.len()).into());
+    // The camera's byte is 41.
+    if bytes.len() != 408 || !bytes.starts_with(b"LOAMFRM1\x29") {
+        return Err(format!("{path} is no frame of the MLX90641").into());
     }
-    let word = |k: usize| i16::from_be_bytes([bytes[2 * k], bytes[2 * k + 1]]);
+    let word = |k: usize| i16::from_be_bytes([bytes[12 + 2 * k], bytes[13 + 2 * k]]);
+    let subpage = if bytes[9] == 0 { Subpage::Zero } else { Subpage::One };
     let ram = RamData { t_a_v_be: word(0), t_a_ptat: word(1), v_dd_pixel: word(2), gain: word(3), compensation_pixel: word(4) };
-    Ok((ram, bytes[10..].try_into()?))
+    Ok((ram, subpage, bytes[24..].try_into()?))
 }
 
 fn main() -> Result<(), Box<dyn Error>> {
@@ -73,11 +75,11 @@ fn main() -> Result<(), Box<dyn Error>> {
     let image = std::fs::read(&words[0]).map_err(|error| format!("{}: {error}", words[0]))?;
     let camera = Calibration::from_data(&image)?;
     show_card(&image, &camera)?;
-    let (ram, pixels) = frame_of(words.get(1).filter(|path| *path != "-"))?;
+    let (ram, subpage, pixels) = frame_of(words.get(1).filter(|path| *path != "-"))?;
     if let Some(warning) = camera.gain_warning(ram) {
         println!("{warning}");
     }
-    let (picture, frame) = camera.picture(&camera.settings(camera.resolution()), ram, Subpage::Zero, &pixels)?;
+    let (picture, frame) = camera.picture(&camera.settings(camera.resolution()), ram, subpage, &pixels)?;
     println!("inside {:.2}, {} pixels lost", frame.t_a, frame.lost);
     for row in picture.chunks(16) {
         println!("{}", row.iter().map(|t| format!("{t:7.2}")).collect::<String>());
