@@ -2,8 +2,8 @@
 // fifth field is 0, since no word of this card is mended.
 // Only the first 1,664 bytes of an image are loaded, and a length is told only where it is below that. So input of any length is
 // served by a buffer of 4,096 bytes that is read until it is full or the input ends; what follows is not read.
-// On standard error a refusal is told as `refused` with number, place and value. Where reading or writing fails it has `failed`; of input that
-// failed nothing goes to standard output.
+// On standard error a refusal is told as `refused` with number, place and value. Where reading or writing fails it has `failed: reading` or
+// `failed: writing`; of input that failed nothing goes to standard output.
 use board_lines::end_line;
 use board_lines::plain_load_line;
 use libc::STDIN_FILENO;
@@ -31,6 +31,6 @@ fn main() {
     if console::whole(n, IMAGE_BYTES) {
         serve(&buffer[..n]);
     } else {
-        console::failed();
+        console::failed_reading();
     }
 }

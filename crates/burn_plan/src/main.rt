@@ -1,12 +1,16 @@
 // Reads a present card and right after it a wanted one from standard input, and writes the steps from the one to the other, a line for each; then
 // how many there were. A card is 1,664 bytes; what follows the second is not read. A refusal has a line in place of a step, and on standard error
-// `refused` with number, place and value. Where reading or writing fails standard error has `failed`; of input that failed nothing goes to standard output.
+// `refused` with number, place and value. Where reading or writing fails standard error has
+// `failed: reading` or `failed: writing`; of input that failed nothing goes to standard output. Where the wanted card does not load, standard error has
+// `warning: the wanted card does not load` with number, place and value.
 use burn::Next;
 use burn::Step;
 use console::put;
 use console::tab_number;
 use libc::STDIN_FILENO;
+use map::BASIC_RANGE;
 use map::IMAGE_BYTES;
+use offsets::Offset;
 use refusal::Refusal;
 use refusal::Verdict;
 ghost use Prim.Native.Nat.{_≤_};
@@ -79,8 +83,42 @@ fn burn_all(present: &mut [u8], wanted: &[u8]) -> Plan {
     planned(steps, true)
 }
 
+// What loading a card would answer.
+fn loads(image: &[u8]) -> Verdict {
+    let mut offsets0: [Offset; 192] = [0; 192];
+    let mut offsets1: [Offset; 192] = [0; 192];
+    let mut alpha = [0.0f32; 192];
+    let mut k_v = [0.0f32; 192];
+    let mut k_ta = [0.0f32; 192];
+    let loaded = eeprom::load(
+        image,
+        BASIC_RANGE,
+        &mut offsets0,
+        &mut offsets1,
+        &mut alpha,
+        &mut k_v,
+        &mut k_ta,
+    );
+    loaded.verdict
+}
+
+// A burn is planned all the same: a card may be written in several rounds.
+fn warn(wanted: &[u8]) {
+    let verdict = loads(wanted);
+    let told = verdict.told();
+    if told.number == 0 {
+        return;
+    }
+    console::say(b"warning: the wanted card does not load:");
+    console::say_number(told.number);
+    console::say_number(told.place);
+    console::say_number(told.value);
+    console::say(b"\n");
+}
+
 // The lines of the steps from one card to the other.
 fn plan_lines(present: &mut [u8], wanted: &[u8]) {
+    warn(wanted);
     let plan = burn_all(present, wanted);
     console::went(plan.written && end_line(plan.steps), plan.verdict);
 }
@@ -90,13 +128,13 @@ fn main() {
     let mut wanted = [0u8; IMAGE_BYTES];
     let here = io::read_full(STDIN_FILENO, &mut present);
     if !console::whole(here, IMAGE_BYTES) {
-        console::failed();
+        console::failed_reading();
         return;
     }
     let there = io::read_full(STDIN_FILENO, &mut wanted);
     if console::whole(there, IMAGE_BYTES) {
         plan_lines(&mut present[..here], &wanted[..there]);
     } else {
-        console::failed();
+        console::failed_reading();
     }
 }

@@ -36,15 +36,25 @@ pub fn refused(told: Told) {
     say(b"\n");
 }
 
-// The last line of a program that could not read its input or write its output.
-pub fn failed() {
-    say(b"failed\n");
+// The last line of a program that could not read its input,
+pub fn failed_reading() {
+    say(b"failed: reading\n");
+}
+
+// or write its output,
+pub fn failed_writing() {
+    say(b"failed: writing\n");
+}
+
+// or whose input is longer than it has room for.
+pub fn failed_longer() {
+    say(b"failed: more than 65,536 bytes\n");
 }
 
 // The last line, if there is one to say, of a program whose output was written or not.
 pub fn went(written: bool, verdict: Verdict) {
     if !written {
-        failed();
+        failed_writing();
         return;
     }
     let Verdict::Pass = verdict else {

@@ -1,7 +1,7 @@
 // Reads an image from standard input and writes its words as lines that write_card takes: 832 of them, that of word 0 first. A line has the
 // data of a checked word in decimal, or any other word as 0x and four hexadecimal digits; then a tab and the word's number. An image that is
 // refused is told on standard error as `refused` with number, place and value, and nothing goes to standard output; where reading or writing fails
-// standard error has `failed`.
+// standard error has `failed: reading` or `failed: writing`.
 use console::put;
 use console::tab_number;
 use libc::STDIN_FILENO;
@@ -89,6 +89,6 @@ fn main() {
     if console::whole(n, IMAGE_BYTES) {
         read_card(&buffer[..n]);
     } else {
-        console::failed();
+        console::failed_reading();
     }
 }

@@ -3,7 +3,8 @@
 // one begins; 0xFFFE asks how far it is: a line `kept` has how many bytes are kept and, once the reading has ended, its answer as `load` has it. 0xFFFD
 // and two bytes more say for this card from now on what the basic range is, and how many entries each table has, 192 at most; before that it is the
 // camera's, and 192. A piece that is refused while the reading goes on has a line `taken`, with the refusal as `load` has it.
-// Where the input ends a piece has the bytes that came, and a card that has begun is finished. Where reading or writing fails standard error has `failed`.
+// Where the input ends a piece has the bytes that came, and a card that has begun is finished. Where reading or writing fails standard error has `failed: reading` or
+// `failed: writing`.
 ghost use Prim.Native.Nat.{_≤_};
 ghost use lib.ListN.{length};
 use console::put;
@@ -216,7 +217,9 @@ fn run(most: u64) -> bool {
 
 fn main() {
     let written = run(0xFFFFFFFFFFFFFFFF);
-    if !(written && console::ended()) {
-        console::failed();
+    if !written {
+        console::failed_writing();
+    } else if !console::ended() {
+        console::failed_reading();
     }
 }

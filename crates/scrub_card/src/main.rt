@@ -1,7 +1,7 @@
 // Reads a card from standard input, mends it in place and writes it to standard output, bytes past 1,664 as they are. Standard error has a line for each
 // word that was mended and then for each that is damaged and stays, and a last line that says how it went: `clean`, `mended` and how many,
-// `damaged` and how many were damaged and mended, `refused` with number, place and value, or `failed` where reading or writing failed or the
-// input has more than 65,536 bytes. Of a card that is refused, and of input that failed, nothing goes to standard output.
+// `damaged` and how many were damaged and mended, `refused` with number, place and value, or `failed: reading`, `failed: writing` or
+// `failed: more than 65,536 bytes`. Of a card that is refused, and of input that failed, nothing goes to standard output.
 use console::say;
 use console::say_number;
 use libc::STDIN_FILENO;
@@ -54,16 +54,19 @@ fn scrub_card(card: &mut [u8]) {
         word_lines(&damaged, counts.damaged, b" damaged\n");
         last_line(counts);
     } else {
-        console::failed();
+        console::failed_writing();
     }
 }
 
 fn main() {
     let mut buffer = io::large_buffer();
     let n = io::read_full(STDIN_FILENO, &mut buffer);
+    let room = buffer.len();
     if console::ended() {
         scrub_card(&mut buffer[..n]);
+    } else if n < room {
+        console::failed_reading();
     } else {
-        console::failed();
+        console::failed_longer();
     }
 }

@@ -1,7 +1,7 @@
 // Writes a card from text: 832 lines, that of word 0 first. A line begins with a number, decimal or 0x and hexadecimal: of a checked word
 // its data, of any other the word. The image goes to standard output. A line that is no word, or one more than 832, is told as `refused line`
-// and its number from 1 on; any other refusal as `refused` with number, place and value; `failed` is told where reading or writing fails. All of
-// that goes to standard error, and no byte to standard output. The text has fewer than 65,536 bytes; a longer one is told by the line at which that many end.
+// and its number from 1 on, and so is data above 2047; any other refusal as `refused` with number, place and value; `failed: reading` or `failed: writing`
+// is told where that fails. All of that goes to standard error, and no byte to standard output. The text has fewer than 65,536 bytes; a longer one is told by the line at which that many end.
 mod text;
 
 ghost use Prim.Native.Nat.{_≤_};
@@ -10,6 +10,7 @@ use listing::CHECKED_WORDS;
 use listing::UNCHECKED_WORDS;
 use map::IMAGE_BYTES;
 use map::WORDS;
+use refusal::Told;
 use refusal::Verdict;
 
 fn refused_line(line: u64) {
@@ -98,12 +99,36 @@ fn firsts(list: &[u16], count: usize) -> &[u16] {
     }
 }
 
+// The line of an entry of the data, from 1 on: words 16 to 18, and from 21 on.
+fn line_of(index: u64) -> u64 {
+    if index < 3 {
+        return index + 17;
+    }
+    if index < 814 {
+        return index + 19;
+    }
+    0
+}
+
+// What is refused: data that are too large by their line, all else as it stands.
+fn refused(told: Told) {
+    if told.number != 9 {
+        console::refused(told);
+        return;
+    }
+    console::say(b"refused line");
+    console::say_number(line_of(told.place));
+    console::say(b": data");
+    console::say_number(told.value);
+    console::say(b" is above 2047\n");
+}
+
 // The card of two lists, or what is refused.
 fn write_lists(data: &[u16], others: &[u16]) {
     let mut image = [0u8; IMAGE_BYTES];
     let verdict = writer::write(data, others, &mut image);
     let Verdict::Pass = verdict else {
-        console::refused(verdict.told());
+        refused(verdict.told());
         return;
     };
     console::went(console::put(&image), verdict);
@@ -132,6 +157,6 @@ fn main() {
     if console::whole(n, room) {
         write_text(&buffer[..n], n == room);
     } else {
-        console::failed();
+        console::failed_reading();
     }
 }
