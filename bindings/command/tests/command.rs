@@ -29,9 +29,14 @@ fn shell(room: &Path, line: &str) -> String {
     String::from_utf8_lossy(&output.stdout).into_owned()
 }
 
-/// Lines of shell with what they write.
+/// Lines of shell with what they write, which must end as a line does: else the next `$ ` would not begin one.
 fn session(room: &Path, text: &str) -> String {
-    text.lines().filter(|line| line.starts_with("$ ")).map(|line| format!("{line}\n{}", shell(room, &line[2..]))).collect()
+    text.lines().filter(|line| line.starts_with("$ ")).map(|line| format!("{line}\n{}", whole_lines(line, shell(room, &line[2..])))).collect()
+}
+
+fn whole_lines(line: &str, made: String) -> String {
+    assert!(made.is_empty() || made.ends_with('\n'), "{line} ends within a line");
+    made
 }
 
 /// A paper whose `console` blocks are run anew, all in one folder.
