@@ -3,6 +3,8 @@
 // is full or the input ends, and the rest of the input is not read.
 // A refusal is also written to standard error, as `refused` with number, place and value. If reading or writing fails, standard error has `failed: reading`
 // or `failed: writing`; if reading fails, nothing is written to standard output.
+#![tactic(auto)]
+
 use board_lines::{end_line, load_line};
 use eeprom::Loaded;
 use libc::STDIN_FILENO;

@@ -4,6 +4,8 @@
 // is full or the input ends, and the rest of the input is not read.
 // A refusal is also written to standard error, as `refused` with number, place and value. If reading or writing fails, standard error has `failed: reading`
 // or `failed: writing`; if reading fails, nothing is written to standard output.
+#![tactic(auto)]
+
 use board_lines::{end_line, plain_load_line};
 use libc::STDIN_FILENO;
 use load640::{BASIC_RANGE, Loaded};

@@ -1,4 +1,6 @@
 // The board's lines on standard output: tab-separated fields, numbers in decimal. Each function returns false if writing failed.
+#![tactic(auto)]
+
 use console::{put, tab_number};
 use eeprom::Loaded;
 use refusal::Verdict;

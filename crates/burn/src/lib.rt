@@ -1,5 +1,7 @@
 // Burning: the way from a present image to a wanted one, a step a call. No plan is kept: each step is worked out from what is found, so a burn
 // that was cut goes on from there. Only the first 1,664 bytes of an image count.
+#![tactic(auto)]
+
 ghost use Rattle.std.specs.Prelude.{◌≡◌, ◌+◌, ◌*◌, ◌<◌, ◌≤◌, length};
 ghost use Rattle.refusal.specs.Order.{first_of};
 ghost use Rattle.map.specs.Map.{image_bytes};
@@ -9,14 +11,14 @@ use map::{IMAGE_BYTES, WORDS};
 use refusal::{Refusal, Verdict};
 
 // A word, and what it becomes.
-#[derive(Drop)]
+#[derive(Clone, Copy)]
 pub struct Step {
     pub word: usize,
     pub value: u16,
 }
 
 // What is to be done next. Reached: the present image is the wanted one.
-#[derive(Drop)]
+#[derive(Clone, Copy)]
 pub enum Next {
     Stopped(Refusal),
     Reached,
@@ -24,7 +26,7 @@ pub enum Next {
 }
 
 // What a call has done, and whether the wanted image is now reached. After a refusal it is not.
-#[derive(Drop)]
+#[derive(Clone, Copy)]
 pub struct Burnt {
     pub step: Next,
     pub reached: bool,

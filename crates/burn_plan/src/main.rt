@@ -3,6 +3,8 @@
 // A refusal has a line in place of a step, and standard error has `refused` with number, place and value. If reading or writing fails, standard error has
 // `failed: reading` or `failed: writing`; if reading fails, nothing is written to standard output. If the wanted card does not load, standard error has
 // `warning: the wanted card does not load` with number, place and value.
+#![tactic(auto)]
+
 ghost use Rattle.std.specs.Prelude.{◌≤◌};
 
 use burn::{Next, Step};
@@ -35,7 +37,7 @@ fn end_line(steps: u64) -> bool {
 }
 
 // The number of steps written, the refusal that stopped them, if any, and whether all writing succeeded.
-#[derive(Drop)]
+#[derive(Clone, Copy)]
 struct Plan {
     steps: u64,
     verdict: Verdict,

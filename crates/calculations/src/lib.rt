@@ -1,5 +1,7 @@
 // The MLX90641's frame calls: pixels to infrared, infrared to temperature, both in one pass, and the second pass. Each call that takes pixels has a second
 // form, which takes a filter's average. All of them pass the record's numbers and the tables to the calls of `frames`, which both cameras share.
+#![tactic(auto)]
+
 ghost use Rattle.std.specs.Prelude.{◌≡◌, min, length};
 ghost use Rattle.frames.specs.Frames.{own_reading, steadied, Infrareds, Temperatures, Passes};
 ghost use Rattle.frames.specs.Ranged.{RangedPasses};
@@ -19,7 +21,7 @@ use roots::SIDE;
 const BLOCKS: usize = 6;
 
 // The inputs of a frame apart from the card's record and tables: the caller's settings, the RAM words, and the subpage.
-#[derive(Drop)]
+#[derive(Clone, Copy)]
 pub struct Input {
     pub settings: Settings,
     pub ram: RamData,
@@ -27,7 +29,7 @@ pub struct Input {
 }
 
 // The same inputs, and what a filter returned for the compensation pixel.
-#[derive(Drop)]
+#[derive(Clone, Copy)]
 pub struct FilteredInput {
     pub input: Input,
     pub compensation: Steadied,

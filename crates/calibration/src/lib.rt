@@ -1,4 +1,6 @@
 // The calibration record: all single values and eight-entry arrays of a card, read from the data of its words.
+#![tactic(auto)]
+
 mod coefficients;
 
 ghost use Rattle.std.specs.Prelude.{◌≡◌, ℕ, ◌+◌, ◌<◌, ◌≤◌, pos};
@@ -16,7 +18,7 @@ use card::Cursor;
 use map::Words;
 
 // The calibration record of an MLX90641 card. Values per pixel are not in it: they go to the caller's tables.
-#[derive(Drop)]
+#[derive(Clone, Copy)]
 pub struct Calibration {
     pub k_v_dd: i16,
     pub v_dd_25: i16,
@@ -39,7 +41,7 @@ pub struct Calibration {
 }
 
 // The fields of words 34 to 37.
-#[derive(Drop)]
+#[derive(Clone, Copy)]
 pub struct Sensing {
     pub k_s_ta: f32,
     pub emissivity: f32,
@@ -47,7 +49,7 @@ pub struct Sensing {
 }
 
 // The fields of words 38 to 41.
-#[derive(Drop)]
+#[derive(Clone, Copy)]
 pub struct References {
     pub v_dd_25: i16,
     pub k_v_dd: i16,
@@ -55,7 +57,7 @@ pub struct References {
 }
 
 // The fields of words 42 to 46.
-#[derive(Drop)]
+#[derive(Clone, Copy)]
 pub struct Ptat {
     pub k_t_ptat: f32,
     pub k_v_ptat: f32,
@@ -64,7 +66,7 @@ pub struct Ptat {
 }
 
 // The fields of words 47 to 51.
-#[derive(Drop)]
+#[derive(Clone, Copy)]
 pub struct Compensation {
     pub offset_reference_cp: i16,
     pub k_ta_cp: f32,
@@ -74,7 +76,7 @@ pub struct Compensation {
 }
 
 // A corner temperature and the K_sTo of the range that starts there, with the cursor after them.
-#[derive(Drop)]
+#[derive(Clone, Copy)]
 pub struct Range {
     pub corner: i16,
     pub k_s_to: f32,
@@ -82,7 +84,7 @@ pub struct Range {
 }
 
 // The fields of words 52 to 63: the lowest temperature and the K_sTo of each range.
-#[derive(Drop)]
+#[derive(Clone, Copy)]
 pub struct Ranges {
     pub corner_temperatures: [i16; 8],
     pub k_s_to: [f32; 8],

@@ -1,4 +1,6 @@
 // Burning a card, for C and Rust. Each call passes its images to an inner call and makes the same promise.
+#![tactic(auto)]
+
 ghost use Rattle.std.specs.Prelude.{◌≡◌};
 ghost use Rattle.burn.specs.Burn.{next_of};
 ghost use Rattle.capi_burn.specs.Burning.{flag_of, burning_out, is_reached, Burning};
@@ -8,7 +10,7 @@ use burn::Next;
 // The result of a burning call: number, place and value of the refusal, all 0 for none; the step's word and its new value, 832 and 0 if there is no step; and
 // `reached`, 1 if the wanted image is reached, else 0.
 #[repr(C)]
-#[derive(Drop)]
+#[derive(Clone, Copy)]
 pub struct Burn {
     pub number: u64,
     pub place: u64,

@@ -1,4 +1,6 @@
 // Cards, for C and Rust. Each call passes its arguments to an inner call and makes the same promise.
+#![tactic(auto)]
+
 ghost use Rattle.std.specs.Prelude.{◌≡◌, take, drop};
 ghost use Rattle.eeprom.specs.Load.{tables};
 ghost use Rattle.eeprom.specs.Parts.{row_of, offsets_of};
@@ -13,7 +15,7 @@ use refusal::Verdict;
 // The result of a load: number, place and value of the refusal, all 0 for none; the number of checked words that were mended, and the last of them (832 if
 // there is none, and after a refusal); and the calibration record, all zero after a refusal.
 #[repr(C)]
-#[derive(Drop)]
+#[derive(Clone, Copy)]
 pub struct Load {
     pub number: u64,
     pub place: u64,
@@ -25,7 +27,7 @@ pub struct Load {
 
 // The result of a call that returns nothing else: number, place and value of the refusal, all 0 for none.
 #[repr(C)]
-#[derive(Drop)]
+#[derive(Clone, Copy)]
 pub struct Outcome {
     pub number: u64,
     pub place: u64,
@@ -34,7 +36,7 @@ pub struct Outcome {
 
 // A part of one of the caller's slices: the index of its first entry and its length.
 #[repr(C)]
-#[derive(Drop)]
+#[derive(Clone, Copy)]
 pub struct Part {
     pub start: usize,
     pub length: usize,

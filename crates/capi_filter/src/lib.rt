@@ -1,4 +1,6 @@
 // The filter of the compensation pixel, for C and Rust, and the MLX90641's frame calls that take its average.
+#![tactic(auto)]
+
 ghost use Rattle.std.specs.Prelude.{◌≡◌};
 ghost use Rattle.filter.specs.Filter.{empty, pushed, average_of};
 ghost use Rattle.frames.specs.Frames.{steadied, Infrareds, Passes};
@@ -16,7 +18,7 @@ use offsets::Offset;
 
 // What a filter returns: the average of the last 16 readings with `ready` 1, or +0 with `ready` 0 if there are fewer than 16.
 #[repr(C)]
-#[derive(Drop)]
+#[derive(Clone, Copy)]
 pub struct Average {
     pub average: f32,
     pub ready: u8,
@@ -24,7 +26,7 @@ pub struct Average {
 
 // The inputs of a filtered frame: those of the plain one, and what the filter returned. If `ready` is 0, the frame's own reading is used.
 #[repr(C)]
-#[derive(Drop)]
+#[derive(Clone, Copy)]
 pub struct Filtered {
     pub input: Input,
     pub compensation: Average,

@@ -1,4 +1,6 @@
 // The MLX90640's frame calls that take a filter's average of the compensation pixel, for C and Rust.
+#![tactic(auto)]
+
 ghost use Rattle.std.specs.Prelude.{◌≡◌};
 ghost use Rattle.frames.specs.Frames.{steadied, Infrareds, Passes};
 ghost use Rattle.frames.specs.Ranged.{RangedPasses};
@@ -15,7 +17,7 @@ use frames640::FilteredInput;
 
 // The inputs of a filtered frame: those of the plain one, and what the subpage's own filter returned. If `ready` is 0, the frame's own reading is used.
 #[repr(C)]
-#[derive(Drop)]
+#[derive(Clone, Copy)]
 pub struct Filtered640 {
     pub input: Input640,
     pub compensation: Average,

@@ -1,4 +1,6 @@
 // The MLX90641's frames, for C and Rust. Each call passes its arguments to an inner call and makes the same promise.
+#![tactic(auto)]
+
 ghost use Rattle.std.specs.Prelude.{◌≡◌};
 ghost use Rattle.frames.specs.Frames.{own_reading, Infrareds, Temperatures, Passes};
 ghost use Rattle.frames.specs.Ranged.{RangedPasses};
@@ -13,7 +15,7 @@ use offsets::Offset;
 
 // The sensor readings of a frame that are not pixels.
 #[repr(C)]
-#[derive(Drop)]
+#[derive(Clone, Copy)]
 pub struct Ram {
     pub t_a_v_be: i16,
     pub t_a_ptat: i16,
@@ -25,7 +27,7 @@ pub struct Ram {
 // The numbers that the caller chooses. If `reflected_given` is 0, the reflected temperature is the ambient temperature minus `self_heating`, and `reflected`
 // is not read.
 #[repr(C)]
-#[derive(Drop)]
+#[derive(Clone, Copy)]
 pub struct Settings {
     pub basic_range: usize,
     pub emissivity: f32,
@@ -38,7 +40,7 @@ pub struct Settings {
 
 // The inputs of a frame apart from the card's record and tables. Subpage 0 is the first, any other number the second.
 #[repr(C)]
-#[derive(Drop)]
+#[derive(Clone, Copy)]
 pub struct Input {
     pub settings: Settings,
     pub ram: Ram,
@@ -48,7 +50,7 @@ pub struct Input {
 // The result of a frame call: number, place and value of the refusal, all 0 for none; the number of pixels that this call wrote as NaN (0x7FC00000), and the
 // bits of the ambient temperature, both 0 after a refusal.
 #[repr(C)]
-#[derive(Drop)]
+#[derive(Clone, Copy)]
 pub struct Answer {
     pub number: u64,
     pub place: u64,

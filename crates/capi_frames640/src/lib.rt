@@ -1,4 +1,6 @@
 // The MLX90640's frames, for C and Rust. Each call passes its arguments to an inner call and makes the same promise.
+#![tactic(auto)]
+
 ghost use Rattle.std.specs.Prelude.{◌≡◌};
 ghost use Rattle.frames.specs.Frames.{own_reading, Infrareds, Temperatures, Passes};
 ghost use Rattle.frames.specs.Ranged.{RangedPasses};
@@ -17,7 +19,7 @@ use rows640::Pattern;
 // The inputs of a frame apart from the card's record and tables. Subpage 0 is the first, any other number the second; pattern 0 is interleave, any other
 // number chess.
 #[repr(C)]
-#[derive(Drop)]
+#[derive(Clone, Copy)]
 pub struct Input640 {
     pub settings: Settings,
     pub ram: Ram,

@@ -1,4 +1,6 @@
 // The MLX90640's card, for C and Rust. The call passes its arguments to an inner call and makes the same promise.
+#![tactic(auto)]
+
 ghost use Rattle.load640.specs.Load.{tables};
 ghost use Rattle.capi_load640.specs.Border.{Loading};
 
@@ -6,7 +8,7 @@ use capi_record640::Record640;
 
 // The result of a load: number, place and value of the refusal, all 0 for none; and the record, all zero after a refusal.
 #[repr(C)]
-#[derive(Drop)]
+#[derive(Clone, Copy)]
 pub struct Load640 {
     pub number: u64,
     pub place: u64,

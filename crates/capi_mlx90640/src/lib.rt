@@ -1,4 +1,6 @@
 // Parts of the MLX90640's card format, for C and Rust: splits of a word, access pattern corrections, and pixel entries.
+#![tactic(auto)]
+
 ghost use Rattle.std.specs.Prelude.{◌≡◌};
 ghost use Rattle.mlx90640.specs.Words.{six_ten, u4s, i4s};
 ghost use Rattle.mlx90640.specs.Pixels.{interleave_at, chessboard_at, entry_of};
@@ -8,21 +10,21 @@ use mlx90640::{Entry, SixTen};
 
 // The four unsigned nibbles of a word.
 #[repr(C)]
-#[derive(Drop)]
+#[derive(Clone, Copy)]
 pub struct Unsigned {
     pub nibbles: [u8; 4],
 }
 
 // The four signed nibbles of a word.
 #[repr(C)]
-#[derive(Drop)]
+#[derive(Clone, Copy)]
 pub struct Signed {
     pub nibbles: [i8; 4],
 }
 
 // The access pattern corrections of a word, and the six-entry pattern made of the first two.
 #[repr(C)]
-#[derive(Drop)]
+#[derive(Clone, Copy)]
 pub struct AccessPattern {
     pub chess_3: f32,
     pub chess_2: f32,
@@ -32,7 +34,7 @@ pub struct AccessPattern {
 
 // A pixel's entry, 0 after a refusal; and number, place and value of the refusal, all 0 for none.
 #[repr(C)]
-#[derive(Drop)]
+#[derive(Clone, Copy)]
 pub struct PixelEntry {
     pub number: u64,
     pub place: u64,

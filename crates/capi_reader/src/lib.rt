@@ -1,4 +1,6 @@
 // Reading a card in pieces, for C and Rust. The calls pass their arguments to the reader; its state as C has it says by a flag whether the reading has ended.
+#![tactic(auto)]
+
 ghost use Rattle.std.specs.Prelude.{◌≡◌};
 ghost use Rattle.eeprom.specs.Load.{tables};
 ghost use Rattle.reader.specs.Calls.{start, finishes};
@@ -11,7 +13,7 @@ use reader::{Answer, Image, Reading};
 // A reading: the number of bytes kept, whether it has ended (0 if not), and the result that it ended with. Until then `answer` has number 0, no mended word
 // and a record of zeros.
 #[repr(C)]
-#[derive(Drop)]
+#[derive(Clone, Copy)]
 pub struct Reader {
     pub count: usize,
     pub ended: u8,
@@ -21,7 +23,7 @@ pub struct Reader {
 // The reading after a piece, and the result of the call. While the reading has not ended, number 0 means that more bytes are wanted, and 2 that a table is
 // short.
 #[repr(C)]
-#[derive(Drop)]
+#[derive(Clone, Copy)]
 pub struct Taken {
     pub reader: Reader,
     pub answer: Load,

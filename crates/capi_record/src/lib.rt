@@ -1,4 +1,6 @@
 // The record, the gradient and the subpage as C has them, for both card and frame calls.
+#![tactic(auto)]
+
 ghost use Rattle.std.specs.Prelude.{◌≡◌};
 ghost use Rattle.capi_record.specs.Record.{gradient_out, record_out, gradient_in, record_in, subpage_of};
 
@@ -7,7 +9,7 @@ use camera::{Gradient, Subpage};
 
 // The calibration record. If `has_gradient` is 0 there is no gradient, and `gradient` is not read.
 #[repr(C)]
-#[derive(Drop)]
+#[derive(Clone, Copy)]
 pub struct Record {
     pub k_v_ptat: f32,
     pub k_t_ptat: f32,
@@ -31,7 +33,7 @@ pub struct Record {
 }
 
 // A gradient as a flag and a coefficient.
-#[derive(Drop)]
+#[derive(Clone, Copy)]
 pub struct Flagged {
     pub has: u8,
     pub coefficient: f32,

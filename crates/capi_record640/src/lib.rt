@@ -1,4 +1,6 @@
 // The MLX90640's record as C has it, for both card and frame calls.
+#![tactic(auto)]
+
 ghost use Rattle.std.specs.Prelude.{◌≡◌};
 ghost use Rattle.capi_record640.specs.Record.{record_out, record_in};
 
@@ -7,7 +9,7 @@ use record640::Calibration;
 // The calibration record. If `has_gradient` is 0 there is no gradient, and `gradient` is not read. Lists of two have an entry for each subpage. `unused`
 // fills the struct so that the compiler adds no padding: it is 0 in a record that is returned, and not read in one that is passed in.
 #[repr(C)]
-#[derive(Drop)]
+#[derive(Clone, Copy)]
 pub struct Record640 {
     pub k_v_ptat: f32,
     pub k_t_ptat: f32,

@@ -1,4 +1,6 @@
 // Mending a card in place, for C and Rust. The call passes its arguments to an inner call and makes the same promise.
+#![tactic(auto)]
+
 ghost use Rattle.scrub.specs.Scrub.{lent};
 ghost use Rattle.capi_scrub.specs.Scrubbing.{Scrubbing};
 
@@ -7,7 +9,7 @@ use refusal::Verdict;
 // The result of a scrub: number, place and value of the refusal, all 0 for none; the number of words that it changed, and the number of damaged words, which
 // are unchanged; both 0 after a refusal.
 #[repr(C)]
-#[derive(Drop)]
+#[derive(Clone, Copy)]
 pub struct Scrub {
     pub number: u64,
     pub place: u64,

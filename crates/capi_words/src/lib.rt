@@ -1,4 +1,6 @@
 // Chip words and the fourth root, for C and Rust. Each call passes its arguments to an inner call and makes the same promise.
+#![tactic(auto)]
+
 ghost use Rattle.std.specs.Prelude.{◌≡◌};
 ghost use Rattle.std.specs.Float.{binary32};
 ghost use Rattle.std.specs.Float.Ieee.{to_bits};
@@ -12,7 +14,7 @@ use refusal::Refusal;
 // The result of a call on a chip word: number, place and value of the refusal, all 0 for none; and the word or its data, 0 after a refusal. If a checked word
 // was mended, `mended` is 1 and `bit` is the flipped bit, 0 to 15; or else both are 0.
 #[repr(C)]
-#[derive(Drop)]
+#[derive(Clone, Copy)]
 pub struct Word {
     pub number: u64,
     pub place: u64,

@@ -1,4 +1,6 @@
 // The words of a card: decodes their data, finds the first damaged word, counts the mended ones, and reads fields from the data by a cursor.
+#![tactic(auto)]
+
 ghost use Rattle.std.specs.Prelude.{◌≡◌, true, ◌+◌, ◌*◌, ◌<◌, ◌≤◌, length, pos};
 ghost use Rattle.lists.specs.Written.{filled};
 ghost use Rattle.floats.specs.Floats.{real, over};
@@ -21,21 +23,21 @@ const MIDDLE: usize = 32;
 const SHORT: usize = 8;
 
 // The number of checked words that are not codewords, and the number of the last such word, or 832 if there is none.
-#[derive(Drop)]
+#[derive(Clone, Copy)]
 pub struct Mending {
     pub count: usize,
     pub last: usize,
 }
 
 // The result of decoding a card: the first damaged word in reading order, or 832 if there is none, and the mended words before it.
-#[derive(Drop)]
+#[derive(Clone, Copy)]
 pub struct Decoded {
     pub damaged: usize,
     pub mending: Mending,
 }
 
 // A word of an image as read: its data, whether it is damaged, and whether it is a checked word that is not a codeword.
-#[derive(Drop)]
+#[derive(Clone, Copy)]
 pub struct Read {
     pub value: u16,
     pub damaged: bool,
@@ -210,37 +212,37 @@ fn combined_real(upper: u16, lower: u16) -> f32
 }
 
 // The number of the word of a card that is read next.
-#[derive(Drop)]
+#[derive(Clone, Copy)]
 pub struct Cursor {
     pub word: usize,
 }
 
 // An unsigned field, and the cursor after it. The structs below hold other kinds of field in the same way.
-#[derive(Drop)]
+#[derive(Clone, Copy)]
 pub struct Plain {
     pub value: u16,
     pub next: Cursor,
 }
 
-#[derive(Drop)]
+#[derive(Clone, Copy)]
 pub struct Signed {
     pub value: i16,
     pub next: Cursor,
 }
 
-#[derive(Drop)]
+#[derive(Clone, Copy)]
 pub struct Combined {
     pub value: u32,
     pub next: Cursor,
 }
 
-#[derive(Drop)]
+#[derive(Clone, Copy)]
 pub struct Split {
     pub value: Pair,
     pub next: Cursor,
 }
 
-#[derive(Drop)]
+#[derive(Clone, Copy)]
 pub struct Scaled {
     pub value: f32,
     pub next: Cursor,

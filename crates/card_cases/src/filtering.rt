@@ -2,7 +2,7 @@
 use filter::{Filter, Steadied};
 
 // The position of the next event, the number of bytes that agree, and the filter.
-#[derive(Drop)]
+#[derive(Clone, Copy)]
 struct Turn {
     at: usize,
     agreed: usize,

@@ -1,5 +1,7 @@
 // Test cases of words and cards: each makes the call of its kind on its input, and returns how much of the answer agrees. docs/CASES.md describes the inputs
 // and answers.
+#![tactic(auto)]
+
 mod burning;
 mod filtering;
 mod lists;

@@ -4,7 +4,7 @@ use offsets::Offset;
 use reader::{Answer, Image, Reading};
 
 // Where the next event stands, how far the answers agree, the reading, and what its calls are given.
-#[derive(Drop)]
+#[derive(Clone, Copy)]
 struct Turn {
     at: usize,
     agreed: usize,

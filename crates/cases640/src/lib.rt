@@ -1,5 +1,7 @@
 // Test cases of the MLX90640's card and frames: each makes the call of its kind, and returns how much of the answer agrees. docs/CASES.md describes the
 // inputs and answers.
+#![tactic(auto)]
+
 mod calls;
 mod frame;
 mod given;

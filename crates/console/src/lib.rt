@@ -1,5 +1,7 @@
 // What the programs share: fields of a line on standard output, the test for failed input, and the last line on standard error, which says how the program
 // ended. If standard error is empty, it succeeded; tools/run turns that line into an exit status.
+#![tactic(auto)]
+
 use libc::{STDERR_FILENO, STDIN_FILENO, STDOUT_FILENO};
 use refusal::{Told, Verdict};
 

@@ -1,5 +1,7 @@
 // Loads a card: from its image to a calibration record and five tables, or a refusal that changes nothing. Also two functions that return parts of an
 // image and of a table.
+#![tactic(auto)]
+
 ghost use Rattle.std.specs.Prelude.{◌≡◌, ℕ, min, ◌<◌, length};
 ghost use Rattle.lists.specs.Written.{filled};
 ghost use Rattle.refusal.specs.declared.Verdict.TheVariants.{Pass, Refused};
@@ -23,7 +25,7 @@ use tables::K;
 
 // The result of a load: the verdict; the record, which is all zero after a refusal; and the number of checked words that are not codewords with the
 // last of them, which are 0 and 832 after a refusal.
-#[derive(Drop)]
+#[derive(Clone, Copy)]
 pub struct Loaded {
     pub verdict: Verdict,
     pub calibration: Calibration,
@@ -31,7 +33,7 @@ pub struct Loaded {
 }
 
 // The result of the gate: the verdict, and the mended words.
-#[derive(Drop)]
+#[derive(Clone, Copy)]
 pub struct Gated {
     pub verdict: Verdict,
     pub mending: Mending,

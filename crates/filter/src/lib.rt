@@ -1,4 +1,6 @@
 // A moving average of the compensation pixel: its last 16 raw readings and their sum, as a value.
+#![tactic(auto)]
+
 ghost use Rattle.std.specs.Prelude.{◌≡◌, ◌<◌, ◌+ℤ◌, ◌-ℤ◌};
 ghost use Rattle.std.specs.Int.Signed.{mag};
 ghost use Rattle.filter.specs.Filter.{empty, kept, next_turn, pushed, average_of};
@@ -7,7 +9,7 @@ ghost use Rattle.filter.specs.Filter.{empty, kept, next_turn, pushed, average_of
 // again, and `turn % 16` is the index of the oldest reading. A filter that the caller fills in by hand is accepted too: a sum outside 20 bits signed is
 // clamped to that range, and the index is always `turn % 16`.
 #[repr(C)]
-#[derive(Drop)]
+#[derive(Clone, Copy)]
 pub struct Filter {
     pub readings: [i16; 16],
     pub sum: i32,
@@ -15,7 +17,7 @@ pub struct Filter {
 }
 
 // What a filter returns: `NotYet` while it has fewer than 16 readings, then their average.
-#[derive(Drop)]
+#[derive(Clone, Copy)]
 pub enum Steadied {
     NotYet,
     Average(f32),

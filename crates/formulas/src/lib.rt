@@ -1,4 +1,6 @@
 // The formulas of a frame, in document 01's order of operations. Each step is one f32 operation, rounded once. Every function is total.
+#![tactic(auto)]
+
 ghost use Rattle.std.specs.Prelude.{◌≡◌};
 ghost use Rattle.floats.specs.Floats.{◌⊖◌};
 ghost use Rattle.floats.specs.Constants.{freezing};
@@ -9,7 +11,7 @@ ghost use Rattle.formulas.specs.Inner.{deducted, compensation_of, alpha_deductio
 use camera::Gradient;
 
 // The sensor readings of a frame that are not pixels: the inputs of the supply voltage, the ambient temperature, the gain and the compensation pixel.
-#[derive(Drop)]
+#[derive(Clone, Copy)]
 pub struct RamData {
     pub t_a_v_be: i16,
     pub t_a_ptat: i16,
@@ -19,7 +21,7 @@ pub struct RamData {
 }
 
 // The calibration values that the formulas use, for one subpage.
-#[derive(Drop)]
+#[derive(Clone, Copy)]
 pub struct Constants {
     pub k_v_dd: i16,
     pub v_dd_25: i16,
@@ -37,7 +39,7 @@ pub struct Constants {
 }
 
 // The numbers that the caller chooses for a frame.
-#[derive(Drop)]
+#[derive(Clone, Copy)]
 pub struct Settings {
     pub emissivity: f32,
     pub resolution_correction: f32,
@@ -47,7 +49,7 @@ pub struct Settings {
 }
 
 // The four numbers of a frame that all its pixels share: gain, supply voltage, emissivity and ambient temperature.
-#[derive(Drop)]
+#[derive(Clone, Copy)]
 pub struct CommonIrData {
     pub gain: f32,
     pub v_dd: f32,
@@ -56,21 +58,21 @@ pub struct CommonIrData {
 }
 
 // Where the reflected temperature comes from: a given number, or the ambient temperature minus `self_heating`.
-#[derive(Drop)]
+#[derive(Clone, Copy)]
 pub enum Reflected {
     Given(f32),
     Ambient { self_heating: f32 },
 }
 
 // A number to subtract from every pixel's value, or nothing.
-#[derive(Drop)]
+#[derive(Clone, Copy)]
 pub enum Deduction {
     Nothing,
     Amount(f32),
 }
 
 // The numbers that all pixels share in the step from infrared to temperature. `slope` is 1 - K_sTo × 273.15.
-#[derive(Drop)]
+#[derive(Clone, Copy)]
 pub struct CommonToData {
     pub alpha_deduction: Deduction,
     pub correction: f32,
@@ -80,7 +82,7 @@ pub struct CommonToData {
 }
 
 // One temperature range: its lower corner temperature, its K_sTo and its range coefficient.
-#[derive(Drop)]
+#[derive(Clone, Copy)]
 pub struct Range {
     pub corner: f32,
     pub k_s_to: f32,
@@ -88,7 +90,7 @@ pub struct Range {
 }
 
 // The result for one pixel: its temperature, or its infrared value if the temperature is NaN.
-#[derive(Drop)]
+#[derive(Clone, Copy)]
 pub enum Pixel {
     Temperature(f32),
     Lost(f32),

@@ -1,5 +1,7 @@
 // Test cases of the MLX90641's frames: each makes the call of its kind on a camera and a frame, and returns how much of the answer agrees. docs/CASES.md
 // describes the inputs and answers.
+#![tactic(auto)]
+
 mod given;
 
 use calculations::{FilteredInput, Input};

@@ -1,5 +1,7 @@
 // What the test cases of both cameras' frames share: the numbers that a frame begins with, a filter's result, a record's gradient, and the comparison of a
 // frame's result with the expected answer. docs/CASES.md describes the inputs and answers.
+#![tactic(auto)]
+
 use camera::{Gradient, Subpage};
 use filter::Steadied;
 use formulas::{RamData, Reflected, Settings};

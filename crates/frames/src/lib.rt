@@ -1,5 +1,7 @@
 // The frame calls of any camera: pixels to infrared values or temperatures, and infrared values to temperatures. Each camera's own calls pass in the parts of
 // its record and tables that these need.
+#![tactic(auto)]
+
 ghost use Rattle.std.specs.Prelude.{◌≡◌, min, ◌*◌, ◌<◌, ◌≤◌, List, ℤ, length, get_or, Float};
 ghost use Rattle.std.specs.Float.{nan};
 ghost use Rattle.refusal.specs.Order.{first_of};
@@ -19,14 +21,14 @@ use refusal::{Refusal, Verdict};
 use roots::SIDE;
 
 // What a frame call returns: the bits of the ambient temperature and the number of pixels that this call wrote as NaN (0x7FC00000), or the refusal.
-#[derive(Drop)]
+#[derive(Clone, Copy)]
 pub enum Frame {
     Done { t_a: u32, lost: usize },
     Refused(Refusal),
 }
 
 // What a call from pixels writes: infrared values, temperatures in one pass, or temperatures by the second pass.
-#[derive(Drop)]
+#[derive(Clone, Copy)]
 pub enum Wanted {
     Infrared,
     Temperature,
@@ -35,7 +37,7 @@ pub enum Wanted {
 
 // The arguments of a call from pixels that are passed by value. A frame has `blocks` blocks of 32 pixels. The lists of K_V and access terms have block counts
 // of their own and are repeated over the frame. `table` is the length of the shortest table that an infrared call takes.
-#[derive(Drop)]
+#[derive(Clone, Copy)]
 pub struct Call {
     pub constants: Constants,
     pub settings: Settings,

@@ -1,6 +1,8 @@
 // The MLX90640's frame calls: pixels to infrared, infrared to temperature, both in one pass, and the second pass. Each call that takes pixels has a second
 // form, which takes a filter's average. All of them pass the record's numbers for the subpage and the tables to the calls of `frames`, which both cameras
 // share.
+#![tactic(auto)]
+
 ghost use Rattle.std.specs.Prelude.{◌≡◌, min, ◌<◌, pos, length, get_or};
 ghost use Rattle.frames.specs.Frames.{own_reading, steadied, Infrareds, Temperatures, Passes};
 ghost use Rattle.frames.specs.Ranged.{RangedPasses};
@@ -18,7 +20,7 @@ use rows640::{Pattern, TWO_ROWS};
 const BLOCKS: usize = 24;
 
 // The inputs of a frame apart from the card's record and tables: the caller's settings, the RAM words, the subpage and the access pattern.
-#[derive(Drop)]
+#[derive(Clone, Copy)]
 pub struct Input {
     pub settings: Settings,
     pub ram: RamData,
@@ -27,7 +29,7 @@ pub struct Input {
 }
 
 // The same inputs, and what the subpage's filter returned for the compensation pixel.
-#[derive(Drop)]
+#[derive(Clone, Copy)]
 pub struct FilteredInput {
     pub input: Input,
     pub compensation: Steadied,

@@ -1,4 +1,6 @@
 // The tests that refuse a frame call, in their order of priority. Each test is one function, and the three gates share them.
+#![tactic(auto)]
+
 ghost use Rattle.std.specs.Prelude.{◌≡◌};
 ghost use Rattle.refusal.specs.Order.{first_of};
 ghost use Rattle.gates.specs.Gate.{bad_emissivity, zero_divisor, supply_outside, length_tests, range_tests, reading_tests, emissivity_tests, infrared_tests, temperature_tests, one_pass_tests};
@@ -7,7 +9,7 @@ use formulas::{Constants, RamData};
 use refusal::{Refusal, Verdict};
 
 // The number of pixels of a frame, and the lengths of the caller's slices: its shortest table, its pixel bytes, its destination and its mask.
-#[derive(Drop)]
+#[derive(Clone, Copy)]
 pub struct Lengths {
     pub size: usize,
     pub table: usize,

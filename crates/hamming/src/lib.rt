@@ -1,4 +1,6 @@
 // The chip word: data in bits 0 to 10, check bits P0 to P4 in bits 11 to 15. Encodes data, checks a word and mends a flipped bit.
+#![tactic(auto)]
+
 ghost use Rattle.std.specs.Prelude.{◌≡◌, ◌+◌, ◌*◌, ◌<◌};
 ghost use Rattle.hamming.specs.Word.{parity, data_values, encoded, not_codeword};
 ghost use Rattle.hamming.specs.Inner.{syndrome_of, spread, odd_byte};
@@ -7,7 +9,7 @@ ghost use Rattle.hamming.specs.Answer.{encode_answer, check_answer};
 use refusal::Refusal;
 
 // The result of encoding: the codeword, or a refusal.
-#[derive(Drop)]
+#[derive(Clone, Copy)]
 pub enum Encoded {
     Word(u16),
     Refused(Refusal),
@@ -15,7 +17,7 @@ pub enum Encoded {
 
 // The result of checking a word: `Clean` with the data of a codeword, `Mended` with the data and the number (0 to 15) of the one flipped bit,
 // or a refusal of a damaged word.
-#[derive(Drop)]
+#[derive(Clone, Copy)]
 pub enum Checked {
     Clean(u16),
     Mended { data: u16, bit: u8 },

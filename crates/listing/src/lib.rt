@@ -1,4 +1,6 @@
 // Reads a card into two lists, each in reading order: the data of its checked words, and its unchecked words as they are.
+#![tactic(auto)]
+
 ghost use Rattle.std.specs.Prelude.{◌≡◌, ◌+◌, ◌<◌, ◌≤◌, length, get_or};
 ghost use Rattle.lists.specs.Written.{filled};
 ghost use Rattle.refusal.specs.declared.Verdict.TheVariants.{Pass};

@@ -1,4 +1,6 @@
 // Loads the MLX90640's card: from its image to a calibration record and three tables, or a refusal that changes nothing.
+#![tactic(auto)]
+
 ghost use Rattle.std.specs.Prelude.{◌≡◌, ◌≤◌, min, length};
 ghost use Rattle.refusal.specs.declared.Verdict.TheVariants.{Pass};
 ghost use Rattle.refusal.specs.Order.{first_of};
@@ -17,7 +19,7 @@ use sums640::{PIXELS, SHARED};
 pub const BASIC_RANGE: usize = 1;
 
 // The result of a load: the verdict and the record. After a refusal the record is all zero, without a gradient.
-#[derive(Drop)]
+#[derive(Clone, Copy)]
 pub struct Loaded {
     pub verdict: Verdict,
     pub calibration: Calibration,

@@ -1,4 +1,6 @@
 // The map of an MLX90641 card: its sizes, the field that each of its 832 words belongs to, and which words are checked.
+#![tactic(auto)]
+
 ghost use Rattle.std.specs.Prelude.{◌≡◌};
 ghost use Rattle.map.specs.Map.{role_of, checked};
 
@@ -56,7 +58,7 @@ pub const K_PIXEL: usize = 448;
 pub const OFFSET_1: usize = 640;
 
 // The fields of a card. Every checked word belongs to one.
-#[derive(Drop)]
+#[derive(Clone, Copy)]
 pub enum Field {
     OffsetScale,
     OffsetAverage,
@@ -91,7 +93,7 @@ pub enum Field {
 }
 
 // The role of a word: unchecked, or a word of a field.
-#[derive(Drop)]
+#[derive(Clone, Copy)]
 pub enum Role {
     Unchecked,
     Holds(Field),

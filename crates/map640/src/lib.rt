@@ -1,4 +1,6 @@
 // The map of the MLX90640's card: the field that each of its 832 words belongs to. This card has no error-correcting code: every word is read as it is.
+#![tactic(auto)]
+
 ghost use Rattle.std.specs.Prelude.{◌≡◌};
 ghost use Rattle.map640.specs.Map.{field_of};
 
@@ -44,7 +46,7 @@ pub const CORNERS: usize = 63;
 pub const PIXEL: usize = 64;
 
 // The fields of a card. Every word belongs to one.
-#[derive(Drop)]
+#[derive(Clone, Copy)]
 pub enum Field {
     // Words 0 to 15, which are not read.
     NotRead,

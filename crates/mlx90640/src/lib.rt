@@ -1,5 +1,7 @@
 // What is special to the MLX90640's card: how its words are split, the access pattern corrections, and the patterns over its 32 by 24 pixels.
 // Names follow src/mlx90640/eeprom.rs of the crate mlx9064x. Every public function is total.
+#![tactic(auto)]
+
 ghost use Rattle.std.specs.Prelude.{◌≡◌, ◌%◌, ◌≤◌};
 ghost use Rattle.util.specs.Fields.{signed};
 ghost use Rattle.mlx90640.specs.Words.{six_ten, u4s, i4s};
@@ -16,14 +18,14 @@ pub const NUM_PIXELS: usize = WIDTH * HEIGHT;
 
 // A word split into its upper six bits, signed, and its lower ten, unsigned.
 #[repr(C)]
-#[derive(Drop)]
+#[derive(Clone, Copy)]
 pub struct SixTen {
     pub six: i8,
     pub ten: u16,
 }
 
 // The access pattern corrections: the factors that the datasheet numbers 3, 2 and 1, in the order of their bits, uppermost first.
-#[derive(Drop)]
+#[derive(Clone, Copy)]
 pub struct Corrections {
     pub chess_3: f32,
     pub chess_2: f32,
@@ -31,7 +33,7 @@ pub struct Corrections {
 }
 
 // The index of the pattern entry that a pixel takes, or a refusal.
-#[derive(Drop)]
+#[derive(Clone, Copy)]
 pub enum Entry {
     At(usize),
     Refused(Refusal),

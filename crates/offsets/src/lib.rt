@@ -1,4 +1,6 @@
 // Pixel offsets of both subpages: average + raw × 2^scale.
+#![tactic(auto)]
+
 ghost use Rattle.std.specs.Prelude.{◌≡◌, ℕ, ◌+◌, ◌<◌, ◌≤◌, ◌+ℤ◌, length};
 ghost use Rattle.std.specs.Int.Signed.{mag};
 ghost use Rattle.lists.specs.Written.{filled};
@@ -17,7 +19,7 @@ pub type Offset = i32;
 pub const SCALES: u16 = 21;
 
 // The values that all pixel offsets share, from words 16 to 18.
-#[derive(Drop)]
+#[derive(Clone, Copy)]
 pub struct Basis {
     pub scale: u16,
     pub average: i16,

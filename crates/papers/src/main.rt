@@ -1,4 +1,6 @@
 // Compares the library's results with those computed from the documents. The stream in `stdin` is made by cards/papers.
+#![tactic(auto)]
+
 fn main() {
     runner::run();
 }

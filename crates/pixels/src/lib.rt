@@ -1,5 +1,7 @@
 // The pixels of a frame, in blocks of 32: their readings to infrared numbers, those to temperatures, and what the mask asks for into the
 // destination. One driver serves every call of both cameras. Loops over a block have no branch, so that a compiler takes several pixels at once.
+#![tactic(auto)]
+
 ghost use Rattle.std.specs.Prelude.{◌≡◌, false, ℕ, ◌+◌, ◌*◌, ◌%◌, ◌<◌, ◌≤◌, length, get_or};
 ghost use Rattle.std.specs.Float.{nan, binary32};
 ghost use Rattle.std.specs.Float.Ieee.{le, to_bits};
@@ -23,7 +25,7 @@ use roots::SIDE;
 const PATTERN: u32 = 0x7FC0_0000;
 
 // Where the infrared numbers come from: the pixel bytes, or the bits that the destination holds.
-#[derive(Drop)]
+#[derive(Clone, Copy)]
 pub enum Source {
     Pixels {
         common: CommonIrData,
@@ -33,7 +35,7 @@ pub enum Source {
 }
 
 // What is written: infrared numbers, temperatures, or those of the second pass, over so many ranges.
-#[derive(Drop)]
+#[derive(Clone, Copy)]
 pub enum Goal {
     Infrared,
     Temperature(CommonToData),
@@ -41,7 +43,7 @@ pub enum Goal {
 }
 
 // How a frame is worked out, block by block. K_V and access terms are lists of their own numbers of blocks, which are taken in turn.
-#[derive(Drop)]
+#[derive(Clone, Copy)]
 pub struct Work {
     pub blocks: usize,
     pub k_v_blocks: usize,

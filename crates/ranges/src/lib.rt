@@ -1,4 +1,6 @@
 // The temperature ranges of a camera with any number of ranges: the test of their corners for the second pass, and their coefficients.
+#![tactic(auto)]
+
 ghost use Rattle.std.specs.Prelude.{◌≡◌, ◌+◌, ◌<◌, ◌≤◌, length, int_le};
 ghost use Rattle.lists.specs.Written.{filled};
 ghost use Rattle.refusal.specs.Order.{first_of};

@@ -2,6 +2,8 @@
 // in decimal, or an unchecked word as 0x and four hexadecimal digits; then a tab and the word's number. If the image is refused, standard error has `refused`
 // with number, place and value, and nothing is written to standard output. If reading or writing fails, standard error has `failed: reading` or `failed:
 // writing`.
+#![tactic(auto)]
+
 use console::{put, tab_number};
 use libc::{STDIN_FILENO, STDOUT_FILENO};
 use listing::{CHECKED_WORDS, UNCHECKED_WORDS};
@@ -21,7 +23,7 @@ fn unchecked_line(word: usize, bits: u16) -> bool {
 }
 
 // The number of entries written of each list, and whether all writing succeeded.
-#[derive(Drop)]
+#[derive(Clone, Copy)]
 struct Written {
     data: usize,
     others: usize,

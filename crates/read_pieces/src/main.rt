@@ -6,6 +6,8 @@
 // A piece that is refused without ending the reading has a line `taken`, with the refusal in the fields of `load`. If the input ends within a piece, the
 // piece has the bytes that came; at the end of the input a card that has begun is finished. If reading or writing fails, standard error has `failed: reading`
 // or `failed: writing`.
+#![tactic(auto)]
+
 ghost use Rattle.std.specs.Prelude.{◌≤◌, length};
 
 use console::{put, tab_number};
@@ -24,14 +26,14 @@ const FINISHED: usize = 0xFFFF;
 const ENDED: usize = 0x10000;
 
 // The basic range of a card, and the number of entries of each table.
-#[derive(Drop)]
+#[derive(Clone, Copy)]
 struct Settings {
     range: usize,
     table: usize,
 }
 
 // A card in progress, whether anything of it has come, the number of its lines written, and whether the last of them were written without failure.
-#[derive(Drop)]
+#[derive(Clone, Copy)]
 struct Arrival {
     reading: Reading,
     begun: bool,

@@ -1,4 +1,6 @@
 // Reads a card that arrives in pieces of any length. The bytes so far are in an array that the caller lends; the rest of the state is passed by value.
+#![tactic(auto)]
+
 ghost use Rattle.std.specs.Prelude.{◌≡◌, ◌<◌};
 ghost use Rattle.eeprom.specs.Load.{tables};
 ghost use Rattle.reader.specs.Bytes.{held, taking, fed};
@@ -14,14 +16,14 @@ pub type Image = [u8; IMAGE_BYTES];
 
 // The answer of a call: more bytes are wanted, or the result of a load, which is a refusal or the record of a complete card. While more bytes are
 // wanted, `loaded` has no refusal and a record of zeros.
-#[derive(Drop)]
+#[derive(Clone, Copy)]
 pub struct Answer {
     pub more: bool,
     pub loaded: Loaded,
 }
 
 // The state of a reading: the number of bytes kept, and its answer so far. The reading has ended when no more bytes are wanted.
-#[derive(Drop)]
+#[derive(Clone, Copy)]
 pub struct Reading {
     pub count: usize,
     pub answer: Answer,
@@ -29,14 +31,14 @@ pub struct Reading {
 
 // The result of a call: the state of the reading after it, and the answer of this call. The two answers differ only if short tables are refused, which
 // does not end the reading.
-#[derive(Drop)]
+#[derive(Clone, Copy)]
 pub struct Taken {
     pub reading: Reading,
     pub answer: Answer,
 }
 
 // The number of bytes kept, and the damaged word that the last byte completed, or 832 if there is none.
-#[derive(Drop)]
+#[derive(Clone, Copy)]
 pub struct Kept {
     pub count: usize,
     pub damaged: usize,

@@ -1,4 +1,6 @@
 // Reads the MLX90640's calibration record: words 48 to 63, and alpha_PTAT from word 16.
+#![tactic(auto)]
+
 ghost use Rattle.std.specs.Prelude.{◌≡◌, ◌≤◌, ◌<◌, length};
 ghost use Rattle.floats.specs.Floats.{over};
 ghost use Rattle.util.specs.Fields.{signed};
@@ -12,7 +14,7 @@ use camera::Gradient;
 pub const RANGES: usize = 4;
 
 // The calibration record of an MLX90640 card. Arrays of two have an entry for each subpage; arrays of four one for each range, but `k_v`.
-#[derive(Drop)]
+#[derive(Clone, Copy)]
 pub struct Calibration {
     pub k_v_dd: i16,
     pub v_dd_25: i16,

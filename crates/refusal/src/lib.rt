@@ -1,8 +1,10 @@
 // The numbered refusals: why a call stopped, and where. A refused call leaves the caller's tables, pixels and images as they were.
+#![tactic(auto)]
+
 ghost use Rattle.std.specs.Prelude.{◌≡◌};
 ghost use Rattle.refusal.specs.Refusal.{says, told_of, verdict_told, unless};
 
-#[derive(Drop)]
+#[derive(Clone, Copy)]
 pub enum Refusal {
     // 1: the image is shorter than a card.
     ShortImage { length: usize },
@@ -39,7 +41,7 @@ pub enum Refusal {
 }
 
 // A refusal as three numbers: its number, its place (an index, a length or the offending number) and its value. Place and value are 0 if the refusal has none.
-#[derive(Drop)]
+#[derive(Clone, Copy)]
 pub struct Told {
     pub number: u64,
     pub place: u64,
@@ -83,7 +85,7 @@ impl Refusal {
 }
 
 // The result of a call's tests: all passed, or the refusal of the first that failed.
-#[derive(Drop)]
+#[derive(Clone, Copy)]
 pub enum Verdict {
     Pass,
     Refused(Refusal),

@@ -7,7 +7,7 @@ use crate::rows;
 const SHIFT: f64 = 4503599627370496.0;
 
 // The estimated 24-bit significands of the first and of the second root.
-#[derive(Drop)]
+#[derive(Clone, Copy)]
 pub struct Guesses {
     pub first: u64,
     pub second: u64,

@@ -1,4 +1,6 @@
 // The fourth root of a binary32: two square roots, each rounded to nearest, decided by comparing whole squares.
+#![tactic(auto)]
+
 pub mod guess;
 mod rows;
 mod whole;

@@ -2,6 +2,8 @@
 // depends on them.
 // The sample has 4113 numbers of each exponent, from its first to its last; among the subnormals are the 2048 smallest. For the estimates that `roots` makes
 // in blocks, which depend on the bits mod 2^25 alone, the program counts the roots that they leave undecided, over all numbers from 1 up to 16.
+#![tactic(auto)]
+
 ghost use Rattle.std.specs.Prelude.{◌<◌, ◌≤◌};
 
 use libc::STDOUT_FILENO;
@@ -17,14 +19,14 @@ const TO_SIXTEEN: u64 = 0x200_0000;
 const BLOCKS: u32 = 0x10_0000;
 
 // The estimates for one number: 1 for each that missed, and the largest distance of an estimate from its root.
-#[derive(Drop)]
+#[derive(Clone, Copy)]
 struct Shown {
     first: u64,
     second: u64,
     steps: u64,
 }
 
-#[derive(Drop)]
+#[derive(Clone, Copy)]
 struct Tally {
     patterns: u64,
     first: u64,

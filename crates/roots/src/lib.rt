@@ -1,5 +1,7 @@
 // The fourth roots of many numbers at once, in short loops without a branch, of which a compiler makes steps of several numbers. Guesses at
 // both square roots are held against whole squares; a number whose guess is wrong, or that is not normal and positive, goes the way of one.
+#![tactic(auto)]
+
 ghost use Rattle.std.specs.Prelude.{◌≡◌, ◌+◌, ◌%◌, ◌<◌, ◌≤◌, not, T, length, is_nan, to_bits};
 ghost use Rattle.std.specs.Float.{nan, binary32};
 ghost use Rattle.std.specs.Float.Ieee.{fits};

@@ -1,4 +1,6 @@
 // The MLX90640's pixels by row and column: K_V and access terms of the first two rows, which repeat down the picture, and the mask of a subpage.
+#![tactic(auto)]
+
 ghost use Rattle.std.specs.Prelude.{◌≡◌, ◌≤◌, ◌<◌, length};
 ghost use Rattle.std.specs.Float.{nan};
 ghost use Rattle.lists.specs.Each.{Each};
@@ -14,7 +16,7 @@ use refusal::{Refusal, Verdict};
 pub const TWO_ROWS: usize = 2 * WIDTH;
 
 // The access pattern: a subpage has the pixels of one colour of a chessboard, or every other row.
-#[derive(Drop)]
+#[derive(Clone, Copy)]
 pub enum Pattern {
     Chess,
     Interleave,

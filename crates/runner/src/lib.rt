@@ -1,5 +1,7 @@
 // Runs a stream of test cases from standard input. Writes the number of cases of each kind and the number that agree, and the first case that does not.
 // docs/CASES.md describes the stream.
+#![tactic(auto)]
+
 mod lines;
 
 use libc::STDIN_FILENO;
@@ -9,7 +11,7 @@ use lines::First;
 const MOST: u64 = 1000000;
 
 // A case's kind, and the lengths of its name, input and expected answer.
-#[derive(Drop)]
+#[derive(Clone, Copy)]
 struct Head {
     kind: u16,
     name: usize,

@@ -5,7 +5,7 @@ use libc::STDOUT_FILENO;
 pub const CUT_OFF: usize = 0xFFFF_FFFF_FFFF_FFFF;
 
 // The first case that does not agree, if any: its number, its kind, the length of its name, and the number of bytes that agree.
-#[derive(Drop)]
+#[derive(Clone, Copy)]
 pub struct First {
     pub any: bool,
     pub number: u64,

@@ -1,5 +1,7 @@
 // Mends a card in place: each checked word with one flipped bit becomes its codeword. Lists the numbers of the words that were changed, and of those
 // that are damaged and stay as they are.
+#![tactic(auto)]
+
 ghost use Rattle.std.specs.Prelude.{◌≡◌, ◌+◌, ◌*◌, ◌<◌, ◌≤◌, length, set};
 ghost use Rattle.lists.specs.Pick.{pick};
 ghost use Rattle.refusal.specs.Order.{first_of};
@@ -12,21 +14,21 @@ use map::{IMAGE_BYTES, WORDS};
 use refusal::{Refusal, Verdict};
 
 // The number of words that were changed, and the number of damaged words.
-#[derive(Drop)]
+#[derive(Clone, Copy)]
 pub struct Counts {
     pub changed: usize,
     pub damaged: usize,
 }
 
 // The result of a scrub: the verdict, and the number of entries written to each list. After a refusal both counts are 0.
-#[derive(Drop)]
+#[derive(Clone, Copy)]
 pub struct Scrubbed {
     pub verdict: Verdict,
     pub counts: Counts,
 }
 
 // The state in which a word was found: one flip from a codeword (`mended`), damaged, or neither.
-#[derive(Drop)]
+#[derive(Clone, Copy)]
 pub struct Found {
     pub mended: bool,
     pub damaged: bool,

@@ -2,6 +2,8 @@
 // that was mended, then for each that is damaged and unchanged, and a last line with the outcome: `clean`; `mended` and their number; `damaged` and the
 // numbers of damaged and of mended words; `refused` with number, place and value; or `failed: reading`, `failed: writing` or `failed: more than 65,536
 // bytes`. If the card is refused or reading failed, nothing is written to standard output.
+#![tactic(auto)]
+
 use console::{say, say_number};
 use libc::STDIN_FILENO;
 use listing::CHECKED_WORDS;

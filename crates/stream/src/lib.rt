@@ -1,5 +1,7 @@
 // Reading the blocks of bytes of a test case: numbers, tables filled from a block, parts of tables, and the comparison of a result with the expected one.
 // docs/CASES.md describes the blocks.
+#![tactic(auto)]
+
 use camera::Gradient;
 use refusal::{Told, Verdict};
 

@@ -1,4 +1,6 @@
 // The whole numbers of the MLX90640's pixels: sums of signed fields times powers of two, exactly, and the first pixel with one outside i16.
+#![tactic(auto)]
+
 ghost use Rattle.std.specs.Prelude.{◌≡◌, ◌+◌, ◌*◌, ◌/◌, ◌%◌, ◌^◌, ◌<◌, ◌≤◌, true, ◌+ℤ◌, pos, length, get_or};
 ghost use Rattle.std.specs.Int.Signed.{mag};
 ghost use Rattle.floats.specs.Floats.{real, over};

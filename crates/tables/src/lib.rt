@@ -1,4 +1,6 @@
 // The tables with an f32 for each pixel: the sensitivities alpha and the coefficients K_Ta and K_V.
+#![tactic(auto)]
+
 ghost use Rattle.std.specs.Prelude.{◌≡◌, ℕ, ◌+◌, ◌<◌, ◌≤◌, pos, length, replicate};
 ghost use Rattle.lists.specs.Written.{filled};
 ghost use Rattle.floats.specs.Floats.{◌⊗◌, ◌⊘◌, real, over};
@@ -81,14 +83,14 @@ pub fn fill_alpha(words: &Words, table: &mut [f32])
 }
 
 // Which of a pixel's two coefficients: K_Ta is the upper 6 bits of its word, K_V the lower 5.
-#[derive(Drop)]
+#[derive(Clone, Copy)]
 pub enum K {
     KTa,
     KV,
 }
 
 // The values that all pixels share for a coefficient, as f32: the average, 2^scale1 and 2^scale2.
-#[derive(Drop)]
+#[derive(Clone, Copy)]
 pub struct KBasis {
     pub average: f32,
     pub power1: f32,

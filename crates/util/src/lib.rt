@@ -1,11 +1,13 @@
 // Words and their fields: big-endian words, signed fields of any width, combined words, words split in two; and the lesser of two lengths.
+#![tactic(auto)]
+
 ghost use Rattle.std.specs.Prelude.{◌≡◌, min, ◌+◌, ◌*◌, ◌<◌, ◌≤◌, ◌-ℤ◌, length};
 ghost use Rattle.std.specs.Int.Signed.{mag};
 ghost use Rattle.util.specs.Words.{big_endian, swapped, word_at};
 ghost use Rattle.util.specs.Fields.{signed, combined, pair_of, in_i16};
 
 // A word split into its upper and its lower bits.
-#[derive(Drop)]
+#[derive(Clone, Copy)]
 pub struct Pair {
     pub upper: u16,
     pub lower: u16,

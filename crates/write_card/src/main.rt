@@ -3,6 +3,8 @@
 // Standard error has `refused line` and the line's number, from 1 on, for a line that is not a word, a line past 832, or data above 2047; `refused` with
 // number, place and value for any other refusal; and `failed: reading` or `failed: writing` if that fails. In all these cases no byte goes to standard
 // output. A text of 65,536 bytes or more is refused by the number of the line that byte 65,536 is in.
+#![tactic(auto)]
+
 mod text;
 
 ghost use Rattle.std.specs.Prelude.{◌≤◌};
@@ -19,7 +21,7 @@ fn refused_line(line: u64) {
 }
 
 // The number of entries filled in each list.
-#[derive(Drop)]
+#[derive(Clone, Copy)]
 struct Filled {
     data: usize,
     others: usize,
@@ -50,7 +52,7 @@ fn put(filled: Filled, checked: bool, word: u16, data: &mut [u16], others: &mut 
 }
 
 // The number of lines read, whether all of them are words, and the number of entries filled in the lists.
-#[derive(Drop)]
+#[derive(Clone, Copy)]
 struct Lines {
     count: usize,
     good: bool,

@@ -85,7 +85,7 @@ fn line_end(text: &[u8], start: usize) -> usize
 }
 
 // A line's word, and the start of the next line, or the end of the text.
-#[derive(Drop)]
+#[derive(Clone, Copy)]
 pub struct Line {
     pub word: u32,
     pub next: usize,

@@ -1,4 +1,6 @@
 // Writes a card from two lists, each in reading order: the data of its checked words, and its unchecked words.
+#![tactic(auto)]
+
 ghost use Rattle.std.specs.Prelude.{◌≡◌, ◌+◌, ◌*◌, ◌/◌, ◌%◌, ◌<◌, ◌≤◌, length, set};
 ghost use Rattle.refusal.specs.Order.{first_of};
 ghost use Rattle.hamming.specs.Word.{data_values, encoded};
