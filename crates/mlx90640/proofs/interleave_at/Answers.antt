@@ -7,8 +7,7 @@ use native.Mathlib.Omega.{arith}
 use lib.ListN.{get_or}
 use Rattle.mlx90640.specs.Pixels.{row, column, turns, interleave_at}
 use Rattle.mlx90640.proofs.Entries.{half, first-of-three}
-use Rattle.mlx90640.proofs.interleave_at.Statement.{statement}
-use Rattle.mlx90640.proofs.interleave_at.Tie as tie
+use Rattle.mlx90640.proofs.interleave_at.Goals as goal
 
 by_turn : (pixel k : ℕ) → get_or turns (column pixel % 4) 0 ≡ k → row pixel % 2 * 3 + k ≡ interleave_at pixel
 unfolding interleave_at
@@ -17,18 +16,14 @@ by_turn pixel k e = ap₂ (λ (x y : ℕ). x + y) (half (row pixel % 2) (mod-lt 
 by-column : (pixel k : ℕ) → column pixel % 4 ≡ k → row pixel % 2 * 3 + get_or turns k 0 ≡ interleave_at pixel
 by-column pixel k e = by_turn pixel _ (ap (λ (n : ℕ). get_or turns n 0) e)
 
-returns : tie.Need-returns
-returns c = by-column c.before.args.pixel 1 c.match.keys1
+pub returns-in-1 : goal.returns-in-1
+returns-in-1 c = by-column c.args.pixel 1 c.in-1.is
 
-returns-2 : tie.Need-returns-2
-returns-2 c = by-column c.before.args.pixel 3 c.match.keys2
+pub returns-in-3 : goal.returns-in-3
+returns-in-3 c = by-column c.args.pixel 3 c.in-3.is
 
-returns-3 : tie.Need-returns-3
-returns-3 c =
-    let pixel = c.before.args.pixel in
-    let e = by_turn pixel 0 (first-of-three (column pixel % 4) (mod-lt (column pixel) (omega arith)) c.match.rest.0.1 c.match.rest.1) in
+pub returns-in_default : goal.returns-in_default
+returns-in_default c =
+    let pixel = c.args.pixel in
+    let e = by_turn pixel 0 (first-of-three (column pixel % 4) (mod-lt (column pixel) (omega arith)) c.in-1.rest.0.1 c.in-1.rest.1) in
     omega arith
-
-pub interleave-at-spec : {M : Type 1} → statement M
-interleave-at-spec =
-    tie.close (tie.spec (λ c. search rules) (λ c. search rules) (λ c. search rules) returns returns-2 returns-3)

@@ -10,8 +10,7 @@ use mir.Syntax.{w32}
 use mir.Val.{to_z, of_z}
 use Rattle.util.proofs.Range.{sum-mag, back32}
 use Rattle.filter.specs.Filter.{kept}
-use Rattle.filter.proofs.moved_sum.Statement.{statement}
-use Rattle.filter.proofs.moved_sum.Tie as tie
+use Rattle.filter.proofs.moved_sum.Goals as goal
 
 -- the bound, for a sum within 20 bits and a difference of two readings
 module _ (s d : ℤ) (h : mag s < 524288) (l : mag d ≤ 65536) where
@@ -24,19 +23,10 @@ module _ (s d : ℤ) (h : mag s < 524288) (l : mag d ≤ 65536) where
   pub whole : to_z w32 (of_z w32 (to_z w32 (of_z w32 s) +ℤ to_z w32 (of_z w32 d))) ≡ s +ℤ d
   whole = ap (λ (x : ℤ). to_z w32 (of_z w32 x)) parts ∙ back32 (s +ℤ d) fits
 
-add-result : tie.Need-overflow-add-result
-add-result c =
-    let s = c.before.kept in
-    let d = c.difference in
-    rw (parts s.result d.result s.ensures.1 d.ensures.1) (sfits_of (fits s.result d.result s.ensures.1 d.ensures.1))
-
-returns : tie.Need-returns
+pub returns : goal.returns
 returns c =
-    let a = c.before.before in
-    let s = c.before.kept in
+    let a = c in
+    let s = c.kept in
     let d = c.difference in
     whole s.result d.result s.ensures.1 d.ensures.1
     ∙ ap₂ ◌+ℤ◌ (s.ensures.0 ∙ ap kept (to_z-of_z a.ranges.sum)) (d.ensures.0 ∙ ap₂ ◌-ℤ◌ (to_z-of_z a.ranges.reading) (to_z-of_z a.ranges.oldest))
-
-pub moved-sum-spec : {M : Type 1} → statement M
-moved-sum-spec = tie.close (tie.spec (λ c κs. search rules) (λ c κs. search rules) add-result returns)

@@ -5,14 +5,10 @@ use native.Mathlib.Nat.{mod-lt}
 use native.Mathlib.Omega.{arith}
 use Rattle.mlx90640.specs.Pixels.{row, column, chessboard_at}
 use Rattle.mlx90640.proofs.Entries.{corner}
-use Rattle.mlx90640.proofs.chessboard_at.Statement.{statement}
-use Rattle.mlx90640.proofs.chessboard_at.Tie as tie
+use Rattle.mlx90640.proofs.chessboard_at.Goals as goal
 
-returns : tie.Need-returns
+pub returns : goal.returns
 unfolding chessboard_at
 returns c =
     let pixel = c.args.pixel in
     corner (row pixel % 2) (column pixel % 2) (mod-lt (row pixel) (omega arith)) (mod-lt (column pixel) (omega arith))
-
-pub chessboard-at-spec : {M : Type 1} → statement M
-chessboard-at-spec = tie.close (tie.spec (λ c. search rules) (λ c. search rules) returns)

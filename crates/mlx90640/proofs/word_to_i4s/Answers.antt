@@ -9,22 +9,17 @@ use mir.Val.{to_z, of_z}
 use Rattle.util.specs.Fields.{signed}
 use Rattle.mlx90640.specs.Words.{i4s}
 use Rattle.mlx90640.proofs.Fields.{back}
-use Rattle.mlx90640.proofs.word_to_i4s.Statement.{statement}
-use Rattle.mlx90640.proofs.word_to_i4s.Tie as tie
+use Rattle.mlx90640.proofs.word_to_i4s.Goals as goal
 
 nibble : (n : ℕ) (z : ℤ) → z ≡ signed 4 n → to_z w8 (of_z w8 z) ≡ signed 4 n
 nibble n z e = back 4 n z (omega arith) (omega arith) e
 
-returns : tie.Need-returns
+pub returns : goal.returns
 unfolding i4s
 returns c =
     rw (
-      nibble _ _ c.before.before.before.i8-from-bits.ensures,
-      nibble _ _ c.before.before.i8-from-bits2.ensures,
-      nibble _ _ c.before.i8-from-bits3.ensures,
-      nibble _ _ c.i8-from-bits4.ensures,
+      nibble _ _ c.i8_from_bits.ensures,
+      nibble _ _ c.i8_from_bits-2.ensures,
+      nibble _ _ c.i8_from_bits-3.ensures,
+      nibble _ _ c.i8_from_bits-4.ensures,
     ) refl
-
-pub word-to-i4s-spec : {M : Type 1} → statement M
-word-to-i4s-spec =
-    tie.close (tie.spec (λ c κs. search rules) (λ c κs. search rules) (λ c κs. search rules) (λ c κs. search rules) returns)

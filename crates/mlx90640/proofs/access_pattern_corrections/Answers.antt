@@ -7,8 +7,7 @@ use Rattle.floats.specs.Floats.{power_of_two}
 use Rattle.floats.proofs.Power.{power-bits}
 use Rattle.mlx90640.specs.Corrections.{corrections_of}
 use Rattle.mlx90640.proofs.Fields.{back}
-use Rattle.mlx90640.proofs.access_pattern_corrections.Statement.{statement}
-use Rattle.mlx90640.proofs.access_pattern_corrections.Tie as tie
+use Rattle.mlx90640.proofs.access_pattern_corrections.Goals as goal
 
 eight : of_bits binary32 0x41000000 ≡ power_of_two 3
 eight = power-bits 3 (omega arith)
@@ -19,26 +18,14 @@ two = power-bits 1 (omega arith)
 sixteen : of_bits binary32 0x41800000 ≡ power_of_two 4
 sixteen = power-bits 4 (omega arith)
 
-returns : tie.Need-returns
+pub returns : goal.returns
 unfolding corrections_of
 returns c =
     rw (
-      back 5 _ _ (omega arith) (omega arith) c.before.before.before.before.before.i8-from-bits.ensures,
-      back 5 _ _ (omega arith) (omega arith) c.before.before.before.i8-from-bits2.ensures,
-      back 6 _ _ (omega arith) (omega arith) c.before.i8-from-bits3.ensures,
+      back 5 _ _ (omega arith) (omega arith) c.i8_from_bits.ensures,
+      back 5 _ _ (omega arith) (omega arith) c.i8_from_bits-2.ensures,
+      back 6 _ _ (omega arith) (omega arith) c.i8_from_bits-3.ensures,
       sym eight,
       sym two,
       sym sixteen,
     ) refl
-
-pub access-pattern-corrections-spec : {M : Type 1} → statement M
-access-pattern-corrections-spec =
-    tie.close
-    (tie.spec
-    (λ c κs. search rules)
-    (λ c. search rules)
-    (λ c κs. search rules)
-    (λ c. search rules)
-    (λ c κs. search rules)
-    (λ c. search rules)
-    returns)

@@ -8,29 +8,15 @@ use mir.Facts.{to_z-of_z}
 use mir.Syntax.{w16, w32}
 use mir.Val.{to_z, of_z}
 use Rattle.filter.specs.Filter.{pushed}
-use Rattle.filter.proofs.push.Statement.{statement}
-use Rattle.filter.proofs.push.Tie as tie
+use Rattle.filter.proofs.push.Goals as goal
 
-returns : tie.Need-returns
+pub returns : goal.returns
 unfolding pushed
 returns c =
-    let a = c.before.before.before.before.before.before.args in
-    let s = c.before.moved_sum in
+    let a = c.args in
+    let s = c.moved_sum-sum in
     let oldest = get_or a.filter.readings (a.filter.turn % 16) (pos 0) in
     let old : to_z w16 (of_z w16 oldest) ≡ oldest = to_z-of_z {w = w16} (search rules) in
     let sum : to_z w32 (of_z w32 a.filter.sum) ≡ a.filter.sum = to_z-of_z {w = w32} (search rules) in
     let reading : to_z w16 (of_z w16 a.reading) ≡ a.reading = to_z-of_z {w = w16} (search rules) in
-    rw (to_z-of_z {w = w32} (record { sfits = s.type-inv }), s.ensures, c.next-turn.ensures, old, sum, reading) refl
-
-pub push_spec : {M : Type 1} → statement M
-push_spec =
-    tie.close
-    (tie.spec
-    (λ c. search rules)
-    (λ c. search rules)
-    (λ c. search rules)
-    (λ c κs. search rules)
-    (λ c. search rules)
-    (λ c. search rules)
-    (λ c κs. search rules)
-    returns)
+    rw (to_z-of_z {w = w32} (record { sfits = s.type-inv }), s.ensures, c.next_turn.ensures, old, sum, reading) refl

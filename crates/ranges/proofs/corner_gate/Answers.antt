@@ -4,8 +4,7 @@ use Rattle.refusal.specs.declared.Refusal.TheVariants.{UnorderedCorners}
 use Rattle.refusal.specs.declared.Verdict.TheVariants.{Pass, Refused}
 use Rattle.refusal.specs.Order.{first_of}
 use Rattle.ranges.specs.Corners.{unrisen, corner_tests}
-use Rattle.ranges.proofs.corner_gate.Statement.{statement}
-use Rattle.ranges.proofs.corner_gate.Tie as tie
+use Rattle.ranges.proofs.corner_gate.Goals as goal
 
 stops : (n : ℕ) (corners : List ℤ) {r : ℕ} → r ≡ unrisen n corners → r < n → Refused (UnorderedCorners r) ≡ first_of (corner_tests n corners)
 unfolding corner_tests first_of
@@ -15,11 +14,8 @@ passes : (n : ℕ) (corners : List ℤ) {r : ℕ} → r ≡ unrisen n corners �
 unfolding corner_tests first_of
 passes n corners e h = let l : n ≤ unrisen n corners = rw e at h in rw (le-ltb (unrisen n corners) n l)
 
-returns : tie.Need-returns
-returns c = stops _ _ c.before.first-unrisen.ensures c.if1.taken
+pub returns-then-corner-ranges : goal.returns-then-corner-ranges
+returns-then-corner-ranges c = stops _ _ c.first_unrisen-corner.ensures c.if-corner-ranges.taken
 
-returns-2 : tie.Need-returns-2
-returns-2 c = passes _ _ c.before.first-unrisen.ensures c.if1.left
-
-pub corner-gate-spec : {M : Type 1} → statement M
-corner-gate-spec = tie.close (tie.spec (λ c κs. search rules) returns returns-2)
+pub returns : goal.returns
+returns c = passes _ _ c.first_unrisen-corner.ensures c.if-corner-ranges.left

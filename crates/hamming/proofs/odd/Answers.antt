@@ -5,13 +5,9 @@ use Prim.Native.Nat.{ℕ, ◌%◌}
 use lib.Bits.{bit_and, and_lt}
 use Rattle.hamming.specs.Word.{parity}
 use Rattle.hamming.proofs.Linear.{ones-in}
-use Rattle.hamming.proofs.odd.Statement.{statement}
-use Rattle.hamming.proofs.odd.Tie as tie
+use Rattle.hamming.proofs.odd.Goals as goal
 
-returns : tie.Need-returns
+pub returns : goal.returns
 unfolding parity
 returns c =
     ap (λ (n : ℕ). n % 2) (ones-in 16 (bit_and c.args.word c.args.mask) (and_lt 16 c.args.word c.args.mask c.ranges.word.fits c.ranges.mask.fits))
-
-pub odd-spec : {M : Type 1} → statement M
-odd-spec = tie.close (tie.spec (λ c. search rules) returns)
