@@ -1,5 +1,4 @@
 -- `root::fourth_positive` meets its contract: each root's significand makes the bits of the nearest root, and there is only one. Assumes nothing.
-use Rattle.std.proofs.Common.{rules}
 use Rattle.root.proofs.Digits.{fourth}
 use Rattle.root.proofs.fourth_positive.Goals as goal
 

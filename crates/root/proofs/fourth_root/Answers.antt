@@ -1,5 +1,5 @@
 -- `root::fourth_root` meets its contract: each return is `root` at x's bits. Assumes nothing.
-use Rattle.std.proofs.Common.{◌≡◌, ◌%◌, ◌≤◌, not, T, sym, ap, ◌∙◌, subst, le_of_suc-le-suc, lt_of_not-le, arith, T_not, rules, lt-ltb}
+use Rattle.std.proofs.Common.{◌≡◌, ◌%◌, ◌≤◌, not, T, sym, ap, ◌∙◌, subst, le_of_suc-le-suc, lt_of_not-le, arith, T_not, lt-ltb}
 use lib.Ieee.{Float, nan, binary32, fits, is_nan, of_bits, to_bits}
 use lib.Ieee.Bits.{of_bits-to_bits, to_bits-lt, nan_bits_is, nan_bits_above}
 use lib.Ieee.Compare.{differs_from_itself}

@@ -1,5 +1,5 @@
 -- `root::lifted` meets its contract: a subnormal is shifted until its highest bit is bit 23, and its exponent falls by as much. Assumes nothing.
-use Rattle.std.proofs.Common.{refl, arith, rules}
+use Rattle.std.proofs.Common.{refl, arith}
 use Rattle.root.proofs.Magnitude.{shifted, lifted-small, lifted-normal}
 use Rattle.root.proofs.lifted.Goals as goal
 

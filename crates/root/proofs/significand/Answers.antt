@@ -1,5 +1,5 @@
 -- `root::significand` meets its contract: the number under the root has 47 or 48 bits, so its root has 24. Assumes nothing.
-use Rattle.std.proofs.Common.{arith, rules}
+use Rattle.std.proofs.Common.{arith}
 use Rattle.root.proofs.Squares.{under, rounded}
 use Rattle.root.proofs.significand.Goals as goal
 

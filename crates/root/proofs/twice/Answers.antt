@@ -1,5 +1,5 @@
 -- `root::twice` meets its contract: the significands of two roots, one after the other. Assumes nothing.
-use Rattle.std.proofs.Common.{arith, rules}
+use Rattle.std.proofs.Common.{arith}
 use Rattle.root.proofs.twice.Goals as goal
 
 pub returns : goal.returns

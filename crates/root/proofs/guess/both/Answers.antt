@@ -1,5 +1,5 @@
 -- `root::guess::both` meets its contract: the second sum is not NaN, so the first, from which it is computed, is not either. Assumes nothing.
-use Rattle.std.proofs.Common.{arith, rules}
+use Rattle.std.proofs.Common.{arith}
 use lib.Ieee.{binary64}
 use Rattle.floats.proofs.Nan.{same-no-nan}
 use Rattle.root.proofs.Numbers.{add_left, add_right, sub-left, mul_left, number-64}

@@ -1,5 +1,5 @@
 -- `root::whole::settle` meets its contract: a difference below 2 * start has not wrapped, so `Rounds` holds; or else the result is `walk`'s. Assumes nothing.
-use Rattle.std.proofs.Common.{arith, rules}
+use Rattle.std.proofs.Common.{arith}
 use Rattle.root.proofs.Squares.{square_le}
 use Rattle.root.proofs.whole.settle.Goals as goal
 

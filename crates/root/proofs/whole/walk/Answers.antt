@@ -1,6 +1,6 @@
 -- `root::whole::walk` meets its contract, whatever the start. The first loop leaves n ≤ q * q + q, and the second keeps that and ends at q * q < n + q.
 -- Assumes nothing.
-use Rattle.std.proofs.Common.{◌+◌, ◌-◌, ◌*◌, ◌≤◌, arith}
+use Rattle.std.proofs.Common.{arith}
 use Rattle.root.proofs.Squares.{square_le, below, down}
 use Rattle.root.proofs.whole.walk.Goals as goal
 

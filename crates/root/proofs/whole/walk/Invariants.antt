@@ -1,5 +1,4 @@
-use Rattle.std.proofs.Common.{◌+◌, ◌-◌, ◌*◌, ◌≤◌, arith}
-use Rattle.root.proofs.Squares.{square_le, below, down}
+use Rattle.std.proofs.Common.{◌+◌, ◌-◌, ◌*◌, ◌≤◌}
 use Rattle.root.proofs.whole.walk.Given as goal
 
 abbrev pub invariant-loop-q : goal.invariant-loop-q
