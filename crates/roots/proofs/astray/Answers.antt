@@ -1,5 +1,5 @@
 -- `roots::astray` meets its contract: both parts of the OR are below 2 ^ 63, so neither difference has wrapped. Assumes nothing.
-use Rattle.std.proofs.Common.{arith, rules}
+use Rattle.std.proofs.Common.{arith}
 use Rattle.root.proofs.Squares.{square_le, or-below}
 use Rattle.roots.proofs.astray.Goals as goal
 

@@ -1,9 +1,8 @@
 -- `roots::complete` meets its contract: an entry that is not 0 is the root already. Assumes nothing.
-use Rattle.std.proofs.Common.{◌≡◌, ℕ, ◌-◌, ◌≤◌, length, get_or, refl, ◌∙◌, arith, length-set, get_or-set_other, rules}
+use Rattle.std.proofs.Common.{◌≡◌, refl, ◌∙◌, arith, length-set, get_or-set_other}
 use lib.Ieee.{nan}
-use Rattle.lists.specs.Each.{Each}
 use Rattle.lists.proofs.Each.{none, one_kept, one_more}
-use Rattle.roots.specs.Many.{side, IsRoot}
+use Rattle.roots.specs.Many.{side}
 use Rattle.roots.proofs.Open.{kept-root}
 use Rattle.roots.proofs.complete.Goals as goal
 

@@ -1,9 +1,7 @@
-use Rattle.std.proofs.Common.{◌≡◌, ℕ, ◌-◌, ◌≤◌, length, get_or, refl, ◌∙◌, arith, length-set, get_or-set_other, rules}
+use Rattle.std.proofs.Common.{◌≡◌, ℕ, ◌-◌, ◌≤◌, length, get_or}
 use lib.Ieee.{nan}
 use Rattle.lists.specs.Each.{Each}
-use Rattle.lists.proofs.Each.{none, one_kept, one_more}
 use Rattle.roots.specs.Many.{side, IsRoot}
-use Rattle.roots.proofs.Open.{kept-root}
 use Rattle.roots.proofs.complete.Given as goal
 
 abbrev pub invariant-loop-i : goal.invariant-loop-i

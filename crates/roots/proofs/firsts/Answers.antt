@@ -1,7 +1,6 @@
 -- `roots::firsts` meets its contract: a step's root has a pattern, and a list stays as long. Assumes nothing.
-use Rattle.std.proofs.Common.{◌≡◌, ◌-◌, ◌≤◌, length, refl, arith, length-set, rules}
+use Rattle.std.proofs.Common.{refl, arith, length-set}
 use Rattle.floats.proofs.Nan.{number-below}
-use Rattle.roots.specs.Many.{side}
 use Rattle.roots.proofs.firsts.Goals as goal
 
 pub loop-i-init : goal.loop-i-init

@@ -1,5 +1,4 @@
-use Rattle.std.proofs.Common.{◌≡◌, ◌-◌, ◌≤◌, length, refl, arith, length-set, rules}
-use Rattle.floats.proofs.Nan.{number-below}
+use Rattle.std.proofs.Common.{◌≡◌, ◌-◌, ◌≤◌, length}
 use Rattle.roots.specs.Many.{side}
 use Rattle.roots.proofs.firsts.Given as goal
 

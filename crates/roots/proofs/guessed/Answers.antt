@@ -1,5 +1,5 @@
 -- `roots::guessed` meets its contract: the patterns are those of the numbers. Assumes nothing.
-use Rattle.std.proofs.Common.{arith, rules}
+use Rattle.std.proofs.Common.{arith}
 use Rattle.roots.proofs.Open.{guesses}
 use Rattle.roots.proofs.guessed.Goals as goal
 

@@ -1,5 +1,5 @@
 -- `roots::inverse` meets its contract: neither pattern is that of a NaN. Assumes nothing.
-use Rattle.std.proofs.Common.{arith, rules}
+use Rattle.std.proofs.Common.{arith}
 use Rattle.floats.proofs.Nan.{number-below}
 use Rattle.roots.proofs.inverse.Goals as goal
 

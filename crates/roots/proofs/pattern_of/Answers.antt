@@ -1,8 +1,8 @@
 -- `roots::pattern_of` meets its contract: if no highest bit is set, b is normal and both guesses are the digits of its roots. Assumes nothing.
-use Rattle.std.proofs.Common.{ℕ, ◌+◌, ◌*◌, ◌/◌, ◌%◌, subst, arith, rules}
+use Rattle.std.proofs.Common.{ℕ, ◌+◌, ◌*◌, ◌/◌, ◌%◌, subst, arith}
 use lib.Bits.{bit_or, or_lt}
 use Rattle.root.specs.Whole.{Rounds}
-use Rattle.root.proofs.Squares.{under, or-below}
+use Rattle.root.proofs.Squares.{or-below}
 use Rattle.roots.proofs.Found.{found}
 use Rattle.roots.proofs.pattern_of.Goals as goal
 

@@ -1,10 +1,8 @@
 -- `roots::patterns` meets its contract: entry by entry. Assumes nothing.
-use Rattle.std.proofs.Common.{◌≡◌, ◌-◌, arith, rules}
-use lib.Ieee.{nan}
-use Rattle.lists.specs.Each.{Each}
+use Rattle.std.proofs.Common.{◌≡◌, arith}
 use Rattle.lists.proofs.Each.{none, one_kept}
-use Rattle.lists.proofs.Fill.{Filling, start, one_more, done}
-use Rattle.roots.specs.Many.{side, IsF32, pattern_at}
+use Rattle.lists.proofs.Fill.{start, one_more, done}
+use Rattle.roots.specs.Many.{side}
 use Rattle.roots.proofs.patterns.Goals as goal
 
 pub loop-i-init : goal.loop-i-init

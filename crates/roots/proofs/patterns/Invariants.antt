@@ -1,8 +1,7 @@
-use Rattle.std.proofs.Common.{◌≡◌, ◌-◌, arith, rules}
+use Rattle.std.proofs.Common.{◌-◌}
 use lib.Ieee.{nan}
 use Rattle.lists.specs.Each.{Each}
-use Rattle.lists.proofs.Each.{none, one_kept}
-use Rattle.lists.proofs.Fill.{Filling, start, one_more, done}
+use Rattle.lists.proofs.Fill.{Filling}
 use Rattle.roots.specs.Many.{side, IsF32, pattern_at}
 use Rattle.roots.proofs.patterns.Given as goal
 

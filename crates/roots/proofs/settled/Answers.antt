@@ -1,7 +1,7 @@
 -- `roots::settled` meets its contract: entry by entry, a pattern that is not 0 is the root's. Assumes nothing.
-use Rattle.std.proofs.Common.{◌≡◌, ◌-◌, ◌≤◌, length, refl, ⊎_elim, arith, length-set, rules}
+use Rattle.std.proofs.Common.{◌≡◌, refl, arith, length-set}
 use Rattle.floats.proofs.Nan.{number-below}
-use Rattle.roots.specs.Many.{side, Leaves}
+use Rattle.roots.specs.Many.{side}
 use Rattle.roots.proofs.Open.{start, left, there}
 use Rattle.roots.proofs.settled.Goals as goal
 use Rattle.roots.proofs.settled.Goals.{then-pattern-eq0, else-pattern-eq0}

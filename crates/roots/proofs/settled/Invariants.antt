@@ -1,7 +1,5 @@
-use Rattle.std.proofs.Common.{◌≡◌, ◌-◌, ◌≤◌, length, refl, ⊎_elim, arith, length-set, rules}
-use Rattle.floats.proofs.Nan.{number-below}
+use Rattle.std.proofs.Common.{◌≡◌, ◌-◌, ◌≤◌, length}
 use Rattle.roots.specs.Many.{side, Leaves}
-use Rattle.roots.proofs.Open.{start, left, there}
 use Rattle.roots.proofs.settled.Given as goal
 
 abbrev pub invariant-loop-i : goal.invariant-loop-i
