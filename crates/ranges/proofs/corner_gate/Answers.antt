@@ -15,7 +15,7 @@ unfolding corner_tests first_of
 passes n corners e h = let l : n ≤ unrisen n corners = rw e at h in rw (le-ltb (unrisen n corners) n l)
 
 pub returns-then-corner-ranges : goal.returns-then-corner-ranges
-returns-then-corner-ranges c = stops _ _ c.first_unrisen-corner.ensures c.if-corner-ranges.taken
+returns-then-corner-ranges c = stops _ _ c.first_unrisen-corner.ensures c.if-corner-ranges.true
 
 pub returns : goal.returns
-returns c = passes _ _ c.first_unrisen-corner.ensures c.if-corner-ranges.left
+returns c = passes _ _ c.first_unrisen-corner.ensures c.if-corner-ranges.false
