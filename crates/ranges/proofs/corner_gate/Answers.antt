@@ -1,5 +1,5 @@
 -- `ranges::corner_gate` meets its contract: one test. Assumes nothing.
-use Rattle.std.proofs.Common.{◌≡◌, ℕ, ◌<◌, ◌≤◌, List, ℤ, rules, le-ltb, lt-ltb}
+use Rattle.std.proofs.Common.{◌≡◌, ℕ, ◌<◌, ◌≤◌, List, ℤ, le-ltb, lt-ltb}
 use Rattle.refusal.specs.declared.Refusal.TheVariants.{UnorderedCorners}
 use Rattle.refusal.specs.declared.Verdict.TheVariants.{Pass, Refused}
 use Rattle.refusal.specs.Order.{first_of}

@@ -1,5 +1,5 @@
 -- `ranges::first_unrisen` meets its contract: in each iteration every corner from the second up to this one is above the one before it. Assumes nothing.
-use Rattle.std.proofs.Common.{◌≡◌, ℕ, ◌-◌, ◌<◌, ◌≤◌, Bool, List, ℤ, sym, refl, ◌∙◌, ap₂, arith, to_z-of_z, w16, to_z, of_z, rules}
+use Rattle.std.proofs.Common.{◌≡◌, ℕ, ◌-◌, List, ℤ, sym, refl, ◌∙◌, ap₂, arith, to_z-of_z, w16, to_z, of_z, rules}
 use Rattle.std.specs.Prelude.{int_le}
 use Rattle.lists.specs.First.{first_from}
 use Rattle.lists.proofs.First as first

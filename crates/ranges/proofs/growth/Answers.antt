@@ -1,5 +1,5 @@
 -- `ranges::growth` meets its contract: by its callees' contracts. Assumes nothing.
-use Rattle.std.proofs.Common.{◌≡◌, ℕ, ◌+◌, ◌∙◌, ap₂, refl, to_z-of_z, w16, w32, to_z, of_z, rules}
+use Rattle.std.proofs.Common.{◌≡◌, ◌+◌, ◌∙◌, ap₂, refl, to_z-of_z, w16, w32, to_z, of_z, rules}
 use Rattle.std.specs.Prelude.{◌-ℤ◌}
 use Rattle.ranges.specs.Corners.{corner_at}
 use Rattle.ranges.specs.Coefficients.{growth}

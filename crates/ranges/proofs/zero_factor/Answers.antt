@@ -1,5 +1,5 @@
 -- `ranges::zero_factor` meets its contract: in each iteration no growth from this range up to the basic one is zero. Assumes nothing.
-use Rattle.std.proofs.Common.{◌≡◌, ℕ, suc, ◌-◌, ◌≤◌, Bool, true, false, List, ℤ, sym, refl, ap, ◌∙◌, arith}
+use Rattle.std.proofs.Common.{◌≡◌, ℕ, suc, Bool, true, false, List, ℤ, sym, refl, ap, ◌∙◌, arith}
 use lib.Ieee.{Float}
 use Rattle.lists.specs.Pick.{pick}
 use Rattle.lists.specs.Last.{last_below}
