@@ -12,23 +12,16 @@ use Rattle.roots.specs.Many.{side}
 use Rattle.pixels.specs.Pixels.{touched}
 use Rattle.pixels.specs.Blocks.{Unasked}
 use Rattle.pixels.proofs.Blocks.{none-asked, nor-this}
-use Rattle.pixels.proofs.any_masked.Statement.{statement}
-use Rattle.pixels.proofs.any_masked.Tie as tie
+use Rattle.pixels.proofs.any_masked.Goals as goal
 
-abbrev invariant-loop : tie.invariant-loop
-invariant-loop mask base any₀ i₀ any i = (i ≤ side) × (any ≡ 0 → Unasked mask base i)
+pub loop-i-init : goal.loop-i-init
+loop-i-init c = (omega arith, λ _. none-asked _ _)
 
-abbrev decreases-loop : tie.decreases-loop
-decreases-loop mask base any₀ i₀ any i = side - i
-
-loop-holds : tie.Need-loop-init invariant-loop decreases-loop
-loop-holds c = (omega arith, λ _. none-asked _ _)
-
-loop-again : tie.Need-loop-preserved invariant-loop decreases-loop
+pub loop-i-preserved : goal.loop-i-preserved
 unfolding touched
-loop-again c =
-    let l = c.before.before.loop in
-    let a = c.before.before.before.args in
+loop-i-preserved c =
+    let l = c.loop-i in
+    let a = c.args in
     let byte = get_or a.mask.now (a.base + l.i) 0 in
     (omega arith, λ e. nor-this (l.invariant.1 (left-none l.any byte e)) (ap not (eq-eqb byte 0 (right-none l.any byte e))))
 
@@ -36,22 +29,8 @@ zero_of : (n : ℕ) (b : Bool) → eqb n 0 ≡ b → not b ≡ false → n ≡ 0
 zero_of n true e f = eqb-true n 0 e
 zero_of n false e f = absurd (true≢false f)
 
-returns : tie.Need-returns invariant-loop decreases-loop
+pub returns : goal.returns
 returns c = λ f.
-    let l = c.before.loop in
+    let l = c.loop-i in
     let e : l.i ≡ side = omega arith in
     rw e at (l.invariant.1 (zero_of l.any (eqb l.any 0) refl f))
-
-pub any-masked-spec : {M : Type 1} → statement M
-any-masked-spec =
-    tie.close
-    (tie.spec
-    invariant-loop
-    decreases-loop
-    loop-holds
-    (λ c. search rules)
-    (λ c. search rules)
-    (λ c. search rules)
-    (λ c. search rules)
-    loop-again
-    returns)
