@@ -6,8 +6,7 @@ use mathlib.Core.List.{List}
 use Prim.Native.Nat.{ℕ}
 use Rattle.util.specs.Words.{word_at}
 use Rattle.burn.specs.Burn.{next_value}
-use Rattle.burn.proofs.next_value.Statement.{statement}
-use Rattle.burn.proofs.next_value.Tie as tie
+use Rattle.burn.proofs.next_value.Goals as goal
 
 module _ (p q : List ℕ) (w : ℕ) where
   written : {old new : ℕ} → old ≡ word_at p w → old ≡ 0 → new ≡ word_at q w → new ≡ next_value p q w
@@ -18,11 +17,8 @@ module _ (p q : List ℕ) (w : ℕ) where
   unfolding next_value
   zeroed e z = rw (ne_eqb _ _ (λ o. z (e ∙ o))) refl
 
-returns : tie.Need-returns
-returns c = written _ _ _ c.before.before.word_at.ensures c.if1.true c.before.word-at2.ensures
+pub returns-then-old-eq0 : goal.returns-then-old-eq0
+returns-then-old-eq0 c = written _ _ _ c.word_at-old.ensures c.if-old-eq0.true c.word_at-new.ensures
 
-returns-2 : tie.Need-returns-2
-returns-2 c = zeroed _ _ _ c.before.before.word_at.ensures c.if1.false
-
-pub next-value-spec : {M : Type 1} → statement M
-next-value-spec = tie.close (tie.spec (λ c κs. search rules) (λ c κs. search rules) returns returns-2)
+pub returns-else-old-eq0 : goal.returns-else-old-eq0
+returns-else-old-eq0 c = zeroed _ _ _ c.word_at-old.ensures c.if-old-eq0.false

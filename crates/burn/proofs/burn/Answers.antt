@@ -15,8 +15,7 @@ use Rattle.burn.specs.declared.Next.TheVariants.{Stopped, Reached, Due}
 use Rattle.burn.specs.Burn.{first_differ, next_of, done, Burns}
 use Rattle.burn.proofs.Tests.{due}
 use Rattle.burn.proofs.Words.{length-word}
-use Rattle.burn.proofs.burn.Statement.{statement}
-use Rattle.burn.proofs.burn.Tie as tie
+use Rattle.burn.proofs.burn.Goals as goal
 
 -- the answer, by what is next
 module _ (p q : List ℕ) {n : Next} (e : n ≡ next_of p q) where
@@ -38,42 +37,25 @@ module _ (p q : List ℕ) {n : Next} (e : n ≡ next_of p q) where
   long : (s : Step) {after : List ℕ} → n ≡ Due s → after ≡ done p s → (image_bytes ≤ length after) × (image_bytes ≤ length q)
   long s f g = let d = due p q s (sym e ∙ f) in (rw (g, length-word p s.word s.value) d.passed.here, d.passed.there)
 
-returns : tie.Need-returns
-returns c = let n = c.before.before in stopped _ _ n.next-step.ensures _ c.enum_told.given.1
+pub returns-in-Stopped : goal.returns-in-Stopped
+returns-in-Stopped c = let n = c in stopped _ _ n.next_step-next.ensures _ c.in-Stopped.is
 
-returns-2 : tie.Need-returns-2
-returns-2 c = let n = c.before.before in at-end _ _ n.next-step.ensures c.enum-told2.given.1
+pub returns-in-Reached : goal.returns-in-Reached
+returns-in-Reached c = let n = c in at-end _ _ n.next_step-next.ensures c.in-Reached.is
 
-set-word-requires : tie.Need-set-word-requires
-set-word-requires c κs =
-    let n = c.before.before in
-    there _ _ n.before.before.next-step.ensures _ n.next.given.1
+pub set_word-requires : goal.set_word-requires
+set_word-requires c =
+    let n = c in
+    there _ _ n.next_step-next.ensures _ n.in-Due.is
 
-first-differing-requires : tie.Need-first-differing-requires
-first-differing-requires c κs =
-    let s = c.before.before.before in
-    let n = s.before.before.before in
-    long _ _ n.before.before.next-step.ensures _ n.next.given.1 s.set_word.ensures
+pub first_differing-left-requires : goal.first_differing-left-requires
+first_differing-left-requires c =
+    let s = c in
+    let n = s in
+    long _ _ n.next_step-next.ensures _ n.in-Due.is s.set_word.ensures
 
-returns-3 : tie.Need-returns-3
-returns-3 c =
-    let s = c.before.before.before.before in
-    let n = s.before.before.before in
-    did _ _ n.before.before.next-step.ensures _ n.next.given.1 s.set_word.ensures c.first-differing.ensures
-
-pub burn-spec : {M : Type 1} → statement M
-burn-spec =
-    tie.close
-    (tie.spec
-    (λ c κs. search rules)
-    (λ c. search rules)
-    (λ c. search rules)
-    (λ c. search rules)
-    set-word-requires
-    first-differing-requires
-    (λ c. search rules)
-    returns
-    (λ c. search rules)
-    returns-2
-    (λ c. search rules)
-    returns-3)
+pub returns-in-Due : goal.returns-in-Due
+returns-in-Due c =
+    let s = c in
+    let n = s in
+    did _ _ n.next_step-next.ensures _ n.in-Due.is s.set_word.ensures c.first_differing-left.ensures

@@ -1,0 +1,16 @@
+use borrow.Author.Rules.{rules}
+use mathlib.Core.Path.{◌≡◌, refl, sym, ◌∙◌}
+use Prim.Native.Nat.{◌-◌, ◌≤◌}
+use native.Mathlib.Omega.{arith}
+use Rattle.lists.specs.First.{first_from}
+use Rattle.lists.proofs.First.{found, further, ended}
+use Rattle.map.specs.Map.{card_words}
+use Rattle.burn.specs.Burn.{differ_at, first_differ}
+use Rattle.burn.proofs.first_differing.Given as goal
+
+abbrev pub invariant-loop-word : goal.invariant-loop-word
+invariant-loop-word l =
+    (l.word ≤ card_words) × (first_from (differ_at l.present l.wanted) l.word (card_words - l.word) ≡ first_differ l.present l.wanted)
+
+abbrev pub decreases-loop-word : goal.decreases-loop-word
+decreases-loop-word l = card_words - l.word
