@@ -30,4 +30,3 @@ loop-i-preserved c =
 
 pub returns : goal.returns
 returns c = all-entered c.loop-i.invariant.0 (search rules)
-

@@ -38,4 +38,3 @@ pub returns : goal.returns
 returns c =
     let e : c.loop-range.range ≡ c.args.ranges = omega arith in
     record { at = λ i h. c.loop-range.invariant.2.at i h ∙ ap (λ (n : ℕ). last_below (reaches c.args.corners.now (v c.args.basic.now i)) 0 n) e ∙ all-looked c.args.ranges c.args.corners.now (v c.args.basic.now i) }
-

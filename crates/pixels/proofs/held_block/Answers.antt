@@ -16,4 +16,3 @@ loop-i-preserved c = entered c.loop-i.invariant (search rules) (search rules) c.
 
 pub returns : goal.returns
 returns c = all-entered c.loop-i.invariant (search rules)
-

@@ -27,7 +27,6 @@ infrared_block-requires c =
 pub returns-in-Pixels : goal.returns-in-Pixels
 returns-in-Pixels c = record {
   at = λ i h. c.infrared_block.ensures.at i h ∙ from-pixels c.in-Pixels.is _ _ _ i h c.turn-k_v_base.ensures.0 c.turn-access_base.ensures.0;
-
 }
 
 pub returns-in-Destination : goal.returns-in-Destination

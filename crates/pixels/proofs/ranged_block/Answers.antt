@@ -26,5 +26,4 @@ returns c = record {
   at = λ i h.
       c.degrees_block.ensures.at i h
       ∙ ap celsius (c.ranged_values.ensures.at i h ∙ ranged _ c.args.ranges _ _ _ (c.temperature_block.ensures.at i h) (c.find_ranges.ensures.at i h));
-
 }

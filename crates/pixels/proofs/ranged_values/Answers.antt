@@ -46,4 +46,3 @@ loop-i-preserved c =
 
 pub returns : goal.returns
 returns c = all-entered c.loop-i.invariant (search rules)
-

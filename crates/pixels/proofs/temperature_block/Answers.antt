@@ -12,5 +12,4 @@ returns c = record {
   at = λ i h.
       c.degrees_block.ensures.at i h
       ∙ ap celsius (c.final_values.ensures.at i h ∙ rooted _ _ _ _ (c.fourth_roots.ensures.at i h ∙ ap root (c.under_roots.ensures.at i h)));
-
 }

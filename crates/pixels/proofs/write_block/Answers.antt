@@ -32,9 +32,8 @@ loop-i-preserved c =
       stepped _ _ c.loop-i.invariant.1 (touched a.mask.now (a.base + i)) refl
           (c.chosen.ensures ∙ ap (λ (t : Bool). pick t (get_or a.bits.now i 0) (get_or c.loop-i.destination (a.base + i) 0)) asked)
           ((let h : c.loop-i.i < side = search rules in
-    c.chosen-lost.ensures ∙ ap₂ (λ (t : Bool) (n : ℕ). pick t n 0) c.masked-asked.ensures (c.requires.2.at c.loop-i.i h))),
+          c.chosen-lost.ensures ∙ ap₂ (λ (t : Bool) (n : ℕ). pick t n 0) c.masked-asked.ensures (c.requires.2.at c.loop-i.i h))),
     )
 
 pub returns : goal.returns
 returns c = let e : c.loop-i.i ≡ side = omega arith in rw e at c.loop-i.invariant.1
-
