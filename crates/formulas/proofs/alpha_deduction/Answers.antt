@@ -1,5 +1,4 @@
 -- `formulas::alpha_deduction` meets its contract: for each case. Assumes nothing.
-use borrow.Author.Rules.{rules}
 use mathlib.Core.Path.{refl}
 use Rattle.formulas.specs.Inner.{alpha_deduction_of}
 use Rattle.formulas.proofs.alpha_deduction.Goals as goal

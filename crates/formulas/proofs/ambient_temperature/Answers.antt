@@ -1,5 +1,4 @@
 -- `formulas::ambient_temperature` meets its contract: by its callees' contracts. Assumes nothing.
-use borrow.Author.Rules.{rules}
 use mathlib.Core.Path.{refl}
 use Rattle.formulas.specs.Frame.{ambient_of}
 use Rattle.formulas.proofs.ambient_temperature.Goals as goal

@@ -1,5 +1,4 @@
 -- `formulas::common_to_data` meets its contract: by its callees' contracts. Assumes nothing.
-use borrow.Author.Rules.{rules}
 use mathlib.Core.Path.{refl}
 use Rattle.formulas.specs.Inner.{common_to_of}
 use Rattle.formulas.proofs.common_to_data.Goals as goal

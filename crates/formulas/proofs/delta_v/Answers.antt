@@ -1,12 +1,6 @@
 -- `formulas::delta_v` meets its contract: the difference is small, so its conversion to f32 is exact. Assumes nothing.
 use borrow.Author.Rules.{rules}
 use mathlib.Core.Path.{◌≡◌, refl}
-use Prim.Native.Nat.{◌≤◌}
-use native.Mathlib.Omega.{arith}
-use lib.Dec.{T, le→leb, lt→ltb}
-use lib.IntN.{ℤ, pos, negsuc}
-use lib.Ieee.{binary32, in_float}
-use lib.Signed.{mag}
 use mir.Facts.{to_z-of_z}
 use mir.Syntax.{w16, w32}
 use mir.Val.{to_z, of_z}

@@ -1,5 +1,4 @@
 -- `formulas::sensitivity` meets its contract: by its callees' contracts. Assumes nothing.
-use borrow.Author.Rules.{rules}
 use mathlib.Core.Path.{refl}
 use Rattle.formulas.specs.Inner.{lifted_sensitivity}
 use Rattle.formulas.proofs.sensitivity.Goals as goal

@@ -1,5 +1,4 @@
 -- `formulas::t_ar` meets its contract: an emissivity of 1, and any other. Assumes nothing.
-use borrow.Author.Rules.{rules}
 use mathlib.Core.Path.{◌≡◌, refl}
 use mathlib.Core.Bool.{true}
 use lib.Ieee.{eq}

@@ -1,5 +1,4 @@
 -- `formulas::under_root` meets its contract: by its callee's contract. Assumes nothing.
-use borrow.Author.Rules.{rules}
 use mathlib.Core.Path.{refl}
 use Rattle.formulas.specs.Inner.{lifted_under}
 use Rattle.formulas.proofs.under_root.Goals as goal
