@@ -1,0 +1,18 @@
+use borrow.Author.Rules.{rules, sfits_of}
+use mathlib.Core.Path.{sym, ◌∙◌, subst}
+use Prim.Native.Nat.{ℕ, ◌+◌, ◌-◌, ◌<◌}
+use native.Mathlib.Omega.{arith}
+use mir.Syntax.{w32}
+use mir.Facts.{to_z-of_z}
+use Rattle.lists.proofs.Fill as fill
+use Rattle.lists.proofs.Fill.{Filling}
+use Rattle.card.specs.Inner.{at}
+use Rattle.offsets.specs.Offsets.{scales, offset_at}
+use Rattle.offsets.proofs.Range.{scale-is}
+use Rattle.offsets.proofs.fill_offsets.Given as goal
+
+abbrev pub invariant-loop-i : goal.invariant-loop-i
+invariant-loop-i l = Filling (λ (k : ℕ). offset_at (at l.words) (l.first + k)) 192 l.initial.table l.table l.i
+
+abbrev pub decreases-loop-i : goal.decreases-loop-i
+decreases-loop-i l = 192 - l.i
