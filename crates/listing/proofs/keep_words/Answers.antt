@@ -1,7 +1,7 @@
 -- `listing::keep_words` meets its contract: it stores word after word, each in its list. Assumes nothing.
 use mathlib.Core.Path.{◌≡◌, sym, ap, ◌∙◌, subst}
 use mathlib.Core.List.{List}
-use Prim.Native.Nat.{ℕ, ◌+◌, ◌-◌, ◌≤◌}
+use Prim.Native.Nat.{ℕ, ◌+◌}
 use native.Mathlib.Nat.{le_of_eq}
 use native.Mathlib.Omega.{arith}
 use lib.ListN.{get_or}
@@ -12,7 +12,6 @@ use Rattle.map.specs.Map.{card_words, checked_words, checked}
 use Rattle.listing.specs.Index.{unchecked, unchecked_words, list_index}
 use Rattle.listing.proofs.Index.{index-zero, checked-all, unchecked-all}
 use Rattle.listing.proofs.Kept.{entry, kept_more}
-use Rattle.listing.proofs.keep_words.Invariants.{Keeping}
 use Rattle.listing.proofs.keep_words.Goals as goal
 
 pub loop-word-init : goal.loop-word-init
@@ -21,7 +20,6 @@ loop-word-init c = record {
   counted = sym (index-zero checked);
   first = subst (Filling _ _ _ _) (sym (index-zero checked)) (fill.start _ _ _);
   second = subst (Filling _ _ _ _) (sym (index-zero unchecked)) (fill.start _ _ _);
-
 }
 
 pub keep_word-before-requires : goal.keep_word-before-requires

@@ -1,16 +1,12 @@
-use mathlib.Core.Path.{◌≡◌, sym, ap, ◌∙◌, subst}
+use mathlib.Core.Path.{◌≡◌}
 use mathlib.Core.List.{List}
-use Prim.Native.Nat.{ℕ, ◌+◌, ◌-◌, ◌≤◌}
-use native.Mathlib.Nat.{le_of_eq}
-use native.Mathlib.Omega.{arith}
+use Prim.Native.Nat.{ℕ, ◌-◌, ◌≤◌}
 use lib.ListN.{get_or}
-use Rattle.lists.proofs.Fill as fill
 use Rattle.lists.proofs.Fill.{Filling}
 use Rattle.util.specs.Words.{word_at}
 use Rattle.map.specs.Map.{card_words, checked_words, checked}
 use Rattle.listing.specs.Index.{unchecked, unchecked_words, list_index}
-use Rattle.listing.proofs.Index.{index-zero, checked-all, unchecked-all}
-use Rattle.listing.proofs.Kept.{entry, kept_more}
+use Rattle.listing.proofs.Kept.{entry}
 use Rattle.listing.proofs.keep_words.Given as goal
 
 -- the invariant: the words before `word` are stored, and `before` of them are checked

@@ -1,6 +1,5 @@
 -- `listing::read_gate` meets its contract: each return is one line of the definition, and the words are decoded where it passes.
 -- Assumes nothing.
-use borrow.Author.Rules.{rules}
 use borrow.Author.Tests.{lt-ltb, le-ltb}
 use mathlib.Core.Path.{◌≡◌}
 use Prim.Native.Nat.{◌<◌, ◌≤◌}

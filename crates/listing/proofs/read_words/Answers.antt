@@ -1,11 +1,9 @@
 -- `listing::read_words` meets its contract: the gate decides, and if it passes the decoded words are stored. Assumes nothing.
 use borrow.Author.Rules.{rules}
-use mathlib.Core.Path.{◌≡◌, refl, sym, ap, ap₂, ◌∙◌}
+use mathlib.Core.Path.{refl, sym, ap, ap₂, ◌∙◌}
 use Prim.Native.Nat.{ℕ}
 use Rattle.lists.specs.Written.{filled}
-use Rattle.refusal.specs.declared.Verdict.TheVariants.{Pass}
 use Rattle.map.specs.Map.{checked_words, checked}
-use Rattle.card.specs.Card.{data_at}
 use Rattle.card.specs.Inner.{at}
 use Rattle.card.proofs.Data.{words_are}
 use Rattle.listing.specs.Index.{lists, listed_word}
