@@ -1,5 +1,4 @@
 -- `filter::moved_sum` meets its contract: both parts are small, so their sum fits. Assumes nothing.
-use borrow.Author.Rules.{rules, sfits_of}
 use mathlib.Core.Path.{◌≡◌, ap, ap₂, ◌∙◌}
 use native.Mathlib.Omega.{arith}
 use Prim.Native.Nat.{◌<◌, ◌≤◌}

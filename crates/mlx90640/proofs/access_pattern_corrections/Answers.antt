@@ -1,5 +1,4 @@
 -- `mlx90640::access_pattern_corrections` meets its contract: three fields, each divided by its power of two. Assumes nothing.
-use borrow.Author.Rules.{rules}
 use mathlib.Core.Path.{◌≡◌, refl, sym}
 use native.Mathlib.Omega.{arith}
 use lib.Ieee.{binary32, of_bits}

@@ -1,5 +1,4 @@
 -- `mlx90640::chessboard_at` meets its contract: the index follows from two parities. Assumes nothing.
-use borrow.Author.Rules.{rules}
 use Prim.Native.Nat.{◌%◌}
 use native.Mathlib.Nat.{mod-lt}
 use native.Mathlib.Omega.{arith}

@@ -1,5 +1,4 @@
 -- `mlx90640::chessboard_entry` meets its contract, which follows from its callees' contracts. Assumes nothing.
-use borrow.Author.Rules.{rules}
 use mathlib.Core.Path.{ap, ◌∙◌}
 use Rattle.mlx90640.specs.Pixels.{entry_of}
 use Rattle.mlx90640.proofs.chessboard_entry.Goals as goal

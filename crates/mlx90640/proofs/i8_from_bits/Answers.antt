@@ -1,5 +1,4 @@
 -- `mlx90640::i8_from_bits` meets its contract: a signed field of up to eight bits fits an i8. Assumes nothing.
-use borrow.Author.Rules.{rules}
 use mathlib.Core.Path.{◌≡◌, sym, ap, ◌∙◌, subst}
 use native.Mathlib.Omega.{arith}
 use lib.IntN.{ℤ}

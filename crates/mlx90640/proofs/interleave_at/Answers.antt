@@ -1,5 +1,4 @@
 -- `mlx90640::interleave_at` meets its contract: the parity of the row by `half`, the column by the arm of the `match`. Assumes nothing.
-use borrow.Author.Rules.{rules}
 use mathlib.Core.Path.{◌≡◌, sym, ap, ap₂}
 use Prim.Native.Nat.{ℕ, ◌+◌, ◌*◌, ◌%◌}
 use native.Mathlib.Nat.{mod-lt}
@@ -25,5 +24,7 @@ returns-in-3 c = by-column c.args.pixel 3 c.in-3.is
 pub returns-in_default : goal.returns-in_default
 returns-in_default c =
     let pixel = c.args.pixel in
-    let e = by_turn pixel 0 (first-of-three (column pixel % 4) (mod-lt (column pixel) (omega arith)) c.in-1.rest.0.1 c.in-1.rest.1) in
+    let not_1 : column pixel % 4 ≡ 1 → ⊥ = λ e. omega arith in
+    let not_3 : column pixel % 4 ≡ 3 → ⊥ = λ e. omega arith in
+    let e = by_turn pixel 0 (first-of-three (column pixel % 4) (mod-lt (column pixel) (omega arith)) not_1 not_3) in
     omega arith

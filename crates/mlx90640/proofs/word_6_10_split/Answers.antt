@@ -1,5 +1,4 @@
 -- `mlx90640::word_6_10_split` meets its contract: the six bits are a signed field of the bits above the ten. Assumes nothing.
-use borrow.Author.Rules.{rules}
 use mathlib.Core.Path.{refl}
 use Prim.Native.Nat.{◌/◌}
 use native.Mathlib.Omega.{arith}

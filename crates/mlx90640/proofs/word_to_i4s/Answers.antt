@@ -1,5 +1,4 @@
 -- `mlx90640::word_to_i4s` meets its contract: each nibble is a signed field of four bits. Assumes nothing.
-use borrow.Author.Rules.{rules}
 use mathlib.Core.Path.{◌≡◌, refl}
 use Prim.Native.Nat.{ℕ}
 use native.Mathlib.Omega.{arith}

@@ -1,5 +1,4 @@
 -- `mlx90640::word_to_u4s` meets its contract, which follows from its callee's contract for each nibble. Assumes nothing.
-use borrow.Author.Rules.{rules}
 use mathlib.Core.Path.{refl}
 use Rattle.mlx90640.specs.Words.{u4s}
 use Rattle.mlx90640.proofs.word_to_u4s.Goals as goal

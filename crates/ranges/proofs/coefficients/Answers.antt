@@ -1,5 +1,5 @@
 -- `ranges::coefficients` meets its contract: those from the basic range up, and then those below it. Assumes nothing.
-use Rattle.std.proofs.Common.{arith, rules}
+use Rattle.std.proofs.Common.{arith}
 use Rattle.ranges.proofs.Climb.{together}
 use Rattle.ranges.proofs.coefficients.Goals as goal
 

@@ -1,5 +1,5 @@
 -- `ranges::corner_gate` meets its contract: one test. Assumes nothing.
-use Rattle.std.proofs.Common.{◌≡◌, ℕ, ◌<◌, ◌≤◌, List, ℤ, rules, le-ltb, lt-ltb}
+use Rattle.std.proofs.Common.{◌≡◌, ℕ, ◌<◌, ◌≤◌, List, ℤ, le-ltb, lt-ltb}
 use Rattle.refusal.specs.declared.Refusal.TheVariants.{UnorderedCorners}
 use Rattle.refusal.specs.declared.Verdict.TheVariants.{Pass, Refused}
 use Rattle.refusal.specs.Order.{first_of}
@@ -15,7 +15,7 @@ unfolding corner_tests first_of
 passes n corners e h = let l : n ≤ unrisen n corners = rw e at h in rw (le-ltb (unrisen n corners) n l)
 
 pub returns-then-corner-ranges : goal.returns-then-corner-ranges
-returns-then-corner-ranges c = stops _ _ c.first_unrisen-corner.ensures c.if-corner-ranges.taken
+returns-then-corner-ranges c = stops _ _ c.first_unrisen-corner.ensures c.if-corner-ranges.true
 
 pub returns : goal.returns
-returns c = passes _ _ c.first_unrisen-corner.ensures c.if-corner-ranges.left
+returns c = passes _ _ c.first_unrisen-corner.ensures c.if-corner-ranges.false

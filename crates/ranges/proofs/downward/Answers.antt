@@ -1,7 +1,6 @@
 -- `ranges::downward` meets its contract: in each iteration the coefficients are right from this range up to the basic one. Assumes nothing.
-use Rattle.std.proofs.Common.{◌≡◌, ℕ, ◌+◌, ◌-◌, ◌≤◌, sym, ◌∙◌, subst, ap₂, arith, rules}
+use Rattle.std.proofs.Common.{◌≡◌, ℕ, ◌+◌, ◌-◌, sym, ◌∙◌, subst, ap₂, arith}
 use Rattle.floats.specs.Floats.{◌⊘◌}
-use Rattle.ranges.specs.Coefficients.{coefficient_at}
 use Rattle.ranges.specs.Inner.{Between}
 use Rattle.ranges.proofs.Steps.{at-basic, next-below}
 use Rattle.ranges.proofs.Climb.{none, one_down}

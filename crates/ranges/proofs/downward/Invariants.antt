@@ -1,9 +1,6 @@
-use Rattle.std.proofs.Common.{◌≡◌, ℕ, ◌+◌, ◌-◌, ◌≤◌, sym, ◌∙◌, subst, ap₂, arith, rules}
-use Rattle.floats.specs.Floats.{◌⊘◌}
+use Rattle.std.proofs.Common.{◌≡◌, ◌≤◌}
 use Rattle.ranges.specs.Coefficients.{coefficient_at}
 use Rattle.ranges.specs.Inner.{Between}
-use Rattle.ranges.proofs.Steps.{at-basic, next-below}
-use Rattle.ranges.proofs.Climb.{none, one_down}
 use Rattle.ranges.proofs.downward.Given as goal
 
 abbrev pub invariant-loop-at : goal.invariant-loop-at

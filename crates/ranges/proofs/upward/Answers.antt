@@ -1,8 +1,6 @@
 -- `ranges::upward` meets its contract: in each iteration the coefficients are right from the basic range up to this one. Assumes nothing.
-use Rattle.std.proofs.Common.{◌≡◌, ℕ, ◌+◌, ◌-◌, ◌<◌, ◌≤◌, sym, ◌∙◌, ap₂, arith, rules}
+use Rattle.std.proofs.Common.{◌≡◌, ◌+◌, sym, ◌∙◌, ap₂, arith}
 use Rattle.floats.specs.Floats.{◌⊗◌}
-use Rattle.ranges.specs.Coefficients.{coefficient_at}
-use Rattle.ranges.specs.Inner.{Between}
 use Rattle.ranges.proofs.Steps.{at-basic, next-above}
 use Rattle.ranges.proofs.Climb.{none, one_up}
 use Rattle.ranges.proofs.upward.Goals as goal

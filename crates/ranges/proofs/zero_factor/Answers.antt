@@ -1,12 +1,11 @@
 -- `ranges::zero_factor` meets its contract: in each iteration no growth from this range up to the basic one is zero. Assumes nothing.
-use Rattle.std.proofs.Common.{◌≡◌, ℕ, suc, ◌-◌, ◌≤◌, Bool, true, false, List, ℤ, sym, refl, ap, ◌∙◌, arith}
+use Rattle.std.proofs.Common.{◌≡◌, ℕ, suc, Bool, true, false, List, ℤ, sym, refl, ap, ◌∙◌, arith}
 use lib.Ieee.{Float}
 use Rattle.lists.specs.Pick.{pick}
 use Rattle.lists.specs.Last.{last_below}
 use Rattle.floats.specs.Floats.{is_zero}
 use Rattle.ranges.specs.Coefficients.{growth, zero_factor}
 use Rattle.ranges.proofs.zero_factor.Goals as goal
-use Rattle.ranges.proofs.zero_factor.Goals.{After-growth}
 
 -- the search either finds the range below or goes on from there
 next : (n : ℕ) (t : List ℤ) (k : List Float) (r m : ℕ) → r ≡ suc m → zero_factor n t k r ≡ pick (is_zero (growth t k m)) m (zero_factor n t k m)
@@ -27,25 +26,21 @@ pub growth-requires : goal.growth-requires
 growth-requires c = (omega arith, omega arith)
 
 -- what this iteration finds about the range below
-found : (c : After-growth) (b : Bool) → is_zero c.growth.result ≡ b
-    → let a = c.args in
-    let range = c.loop-at.at - 1 in
-    pick b range (zero_factor a.ranges a.corners.now a.k_s_to.now range) ≡ zero_factor a.ranges a.corners.now a.k_s_to.now a.basic_range
-found c b e =
-    let a = c.args in
-    let range = c.loop-at.at - 1 in
-    ap (λ (b : Bool). pick b range (zero_factor a.ranges a.corners.now a.k_s_to.now range)) (sym e ∙ ap is_zero c.growth.ensures)
-    ∙ sym (next a.ranges a.corners.now a.k_s_to.now c.loop-at.at range (omega arith))
-    ∙ c.loop-at.invariant.1
+found : (n : ℕ) (t : List ℤ) (k : List Float) (at m b : ℕ) (g : Float) (o : Bool) → is_zero g ≡ o → g ≡ growth t k m → at ≡ suc m → zero_factor n t k at ≡ zero_factor n t k b
+    → pick o m (zero_factor n t k m) ≡ zero_factor n t k b
+found n t k at m b g o e h s i =
+    ap (λ (b : Bool). pick b m (zero_factor n t k m)) (sym e ∙ ap is_zero h)
+    ∙ sym (next n t k at m s)
+    ∙ i
 
 pub returns-then-growth : goal.returns-then-growth
-returns-then-growth c = found c true c.if-growth.true
+returns-then-growth c = found _ _ _ c.loop-at.at _ _ _ true c.if-growth.true c.growth.ensures (omega arith) c.loop-at.invariant.1
 
 pub loop-at-smaller : goal.loop-at-smaller
 loop-at-smaller c = omega arith
 
 pub loop-at-preserved : goal.loop-at-preserved
-loop-at-preserved c = (omega arith, found c false c.if-growth.false)
+loop-at-preserved c = (omega arith, found c.args.ranges _ _ c.loop-at.at _ _ _ false c.if-growth.false c.growth.ensures (omega arith) c.loop-at.invariant.1)
 
 pub returns : goal.returns
 returns c =

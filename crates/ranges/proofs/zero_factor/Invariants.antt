@@ -1,9 +1,5 @@
-use Rattle.std.proofs.Common.{◌≡◌, ℕ, suc, ◌-◌, ◌≤◌, Bool, true, false, List, ℤ, sym, refl, ap, ◌∙◌, arith}
-use lib.Ieee.{Float}
-use Rattle.lists.specs.Pick.{pick}
-use Rattle.lists.specs.Last.{last_below}
-use Rattle.floats.specs.Floats.{is_zero}
-use Rattle.ranges.specs.Coefficients.{growth, zero_factor}
+use Rattle.std.proofs.Common.{◌≡◌, ◌≤◌}
+use Rattle.ranges.specs.Coefficients.{zero_factor}
 use Rattle.ranges.proofs.zero_factor.Given as goal
 
 abbrev pub invariant-loop-at : goal.invariant-loop-at
