@@ -9,9 +9,7 @@ use Rattle.refusal.specs.Order.{first_of}
 use Rattle.util.specs.Words.{word_at}
 use Rattle.sums640.specs.Sums.{pixel_count, first_outside}
 use Rattle.load640.specs.Load.{range_count, zero_range, data_tests}
-use borrow.Author.Rules.{rules}
-use Rattle.load640.proofs.data_gate.Statement.{statement}
-use Rattle.load640.proofs.data_gate.Tie as tie
+use Rattle.load640.proofs.data_gate.Goals as goal
 
 -- the tests, line by line
 module _ (w : ℕ → ℕ) (range : ℕ) where
@@ -33,26 +31,14 @@ module _ (w : ℕ → ℕ) (range : ℕ) where
       unfolding data_tests first_of
       none h = simp (le-ltb _ _ s, lt-leb _ _ i, le-ltb _ _ h)
 
--- what the tests on the way have found
-small : (c : tie.Else1) → pixel_count ≤ first_outside (word_at c.before.before.before.args.image.now)
-small c = let e = c.before.first-outside.ensures in omega arith
+pub returns-then-pixel-lt-PIXELS : goal.returns-then-pixel-lt-PIXELS
+returns-then-pixel-lt-PIXELS c = let a = c.args in large (word_at a.image.now) a.basic_range _ c.first_outside-pixel.ensures (omega arith)
 
-inside : (c : tie.Else2) → c.before.before.before.before.args.basic-range < range_count
-inside c = omega arith
+pub returns-then-basic_range-ge-RANGES : goal.returns-then-basic_range-ge-RANGES
+returns-then-basic_range-ge-RANGES c = let a = c.args in no-range (word_at a.image.now) a.basic_range ((let e = c.first_outside-pixel.ensures in omega arith)) (omega arith)
 
-returns : tie.Need-returns
-returns c = let a = c.before.before.before.args in large (word_at a.image.now) a.basic-range _ c.before.first-outside.ensures (omega arith)
+pub returns-then-range-lt-RANGES : goal.returns-then-range-lt-RANGES
+returns-then-range-lt-RANGES c = let i = c in let a = i.args in zero (word_at a.image.now) a.basic_range ((let e = i.first_outside-pixel.ensures in omega arith)) ((omega arith)) _ c.zero_factor-range.ensures (omega arith)
 
-returns-2 : tie.Need-returns-2
-returns-2 c = let a = c.before.before.before.before.args in no-range (word_at a.image.now) a.basic-range (small c.before) (omega arith)
-
-returns-3 : tie.Need-returns-3
-returns-3 c = let i = c.before.before in let a = i.before.before.before.before.args in zero (word_at a.image.now) a.basic-range (small i.before) (inside i) _ c.before.zero-factor.ensures (omega arith)
-
-returns-4 : tie.Need-returns-4
-returns-4 c = let i = c.before.before in let a = i.before.before.before.before.args in let e = c.before.zero-factor.ensures in none (word_at a.image.now) a.basic-range (small i.before) (inside i) (omega arith)
-
-pub data-gate-spec : {M : Type 1} → statement M
-data-gate-spec =
-    tie.close
-    (tie.spec (λ c κs. search rules) returns returns-2 (λ c κs. search rules) returns-3 returns-4)
+pub returns : goal.returns
+returns c = let i = c in let a = i.args in let e = c.zero_factor-range.ensures in none (word_at a.image.now) a.basic_range ((let e = i.first_outside-pixel.ensures in omega arith)) ((omega arith)) (omega arith)

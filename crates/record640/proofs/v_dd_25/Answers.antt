@@ -1,5 +1,4 @@
 -- `record640::v_dd_25` meets its contract: each step stays within i16. Assumes nothing.
-use borrow.Author.Rules.{sfits_of}
 use borrow.Author.Tests.{lt-ltb}
 use mathlib.Core.Path.{◌≡◌, sym, ap, ◌∙◌}
 use Prim.Native.Nat.{ℕ, zero, suc, ◌+◌, ◌-◌, ◌*◌, ◌%◌, ◌<◌}
@@ -11,9 +10,8 @@ use mir.Val.{to_z, of_z}
 use mir.ValLaws.{to_z_pos}
 use Rattle.util.proofs.Range.{back16}
 use Rattle.record640.specs.Record.{v_dd25_of}
-use borrow.Author.Rules.{rules}
-use Rattle.record640.proofs.v_dd_25.Statement.{statement}
-use Rattle.record640.proofs.v_dd_25.Tie as tie
+use Rattle.record640.proofs.v_dd_25.Goals as goal
+use Rattle.record640.proofs.v_dd_25.Goals.{Start}
 
 minus_is : (b : ℕ) → b < 256 → pos b -ℤ pos 256 ≡ negsuc (255 - b)
 minus_is b h = rw (lt-ltb b 256 h) (ap negsuc (omega arith))
@@ -28,7 +26,7 @@ times-is k = below (suc k * 32) (omega arith) ∙ ap negsuc (omega arith)
 less-is : (k : ℕ) → negsuc k -ℤ pos 8192 ≡ negsuc (k + 8192)
 less-is k = ap negsuc (omega arith)
 
-module _ (c : tie.Start) where
+module _ (c : Start) where
   abbrev b : ℕ
   b = c.args.word % 256
 
@@ -48,17 +46,5 @@ module _ (c : tie.Start) where
   unfolding v_dd25_of
   meant = ap (λ (z : ℤ). z *ℤ pos 32 -ℤ pos 8192) (minus_is b byte) ∙ ap (λ (z : ℤ). z -ℤ pos 8192) (times-is (255 - b)) ∙ less-is ((255 - b) * 32 + 31)
 
-sub-result : tie.Need-overflow-sub-result
-sub-result c = rw (first c) (sfits_of (omega arith))
-
-mul-result : tie.Need-overflow-mul-result
-mul-result c = rw (second c) (sfits_of (omega arith))
-
-sub-result-2 : tie.Need-overflow-sub-result-2
-sub-result-2 c = rw (third c) (sfits_of (omega arith))
-
-returns : tie.Need-returns
+pub returns : goal.returns
 returns c = ap (λ (z : ℤ). to_z w16 (of_z w16 z)) (third c) ∙ back16 (negsuc ((255 - b c) * 32 + 31 + 8192)) (omega arith) ∙ sym (meant c)
-
-pub v-dd-25-spec : {M : Type 1} → statement M
-v-dd-25-spec = tie.close (tie.spec (λ c. search rules) sub-result mul-result sub-result-2 returns)
