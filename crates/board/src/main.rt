@@ -7,7 +7,6 @@
 
 use board_lines::{end_line, load_line};
 use eeprom::Loaded;
-use libc::STDIN_FILENO;
 use map::{BASIC_RANGE, IMAGE_BYTES};
 use offsets::Offset;
 
@@ -34,10 +33,10 @@ fn serve(image: &[u8]) {
     console::went(load_line(loaded) && end_line(1), loaded.verdict);
 }
 
-fn main() {
+fn main(rt: HostRuntime) {
     let mut buffer = io::buffer();
-    let n = io::read_full(STDIN_FILENO, &mut buffer);
-    if console::whole(n, IMAGE_BYTES) {
+    let n = io::read_full(console::STDIN, &mut buffer);
+    if console::whole(rt.stdin(), n, IMAGE_BYTES) {
         serve(&buffer[..n]);
     } else {
         console::failed_reading();

@@ -7,7 +7,6 @@
 #![tactic(auto)]
 
 use board_lines::{end_line, plain_load_line};
-use libc::STDIN_FILENO;
 use load640::{BASIC_RANGE, Loaded};
 use map640::IMAGE_BYTES;
 
@@ -25,10 +24,10 @@ fn serve(image: &[u8]) {
     console::went(plain_load_line(verdict) && end_line(1), verdict);
 }
 
-fn main() {
+fn main(rt: HostRuntime) {
     let mut buffer = io::buffer();
-    let n = io::read_full(STDIN_FILENO, &mut buffer);
-    if console::whole(n, IMAGE_BYTES) {
+    let n = io::read_full(console::STDIN, &mut buffer);
+    if console::whole(rt.stdin(), n, IMAGE_BYTES) {
         serve(&buffer[..n]);
     } else {
         console::failed_reading();

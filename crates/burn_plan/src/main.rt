@@ -9,7 +9,6 @@ ghost use Rattle.std.specs.Prelude.{◌≤◌};
 
 use burn::{Next, Step};
 use console::{put, tab_number};
-use libc::STDIN_FILENO;
 use map::{BASIC_RANGE, IMAGE_BYTES};
 use offsets::Offset;
 use refusal::{Refusal, Verdict};
@@ -123,16 +122,16 @@ fn plan_lines(present: &mut [u8], wanted: &[u8]) {
     console::went(plan.written && end_line(plan.steps), plan.verdict);
 }
 
-fn main() {
+fn main(rt: HostRuntime) {
     let mut present = [0u8; IMAGE_BYTES];
     let mut wanted = [0u8; IMAGE_BYTES];
-    let here = io::read_full(STDIN_FILENO, &mut present);
-    if !console::whole(here, IMAGE_BYTES) {
+    let here = io::read_full(console::STDIN, &mut present);
+    if !console::whole(rt.stdin(), here, IMAGE_BYTES) {
         console::failed_reading();
         return;
     }
-    let there = io::read_full(STDIN_FILENO, &mut wanted);
-    if console::whole(there, IMAGE_BYTES) {
+    let there = io::read_full(console::STDIN, &mut wanted);
+    if console::whole(rt.stdin(), there, IMAGE_BYTES) {
         plan_lines(&mut present[..here], &wanted[..there]);
     } else {
         console::failed_reading();

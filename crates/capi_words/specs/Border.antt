@@ -3,9 +3,7 @@ use Rattle.std.specs.Prelude.{ℕ}
 use Rattle.refusal.specs.declared.Refusal.{Refusal}
 use Rattle.refusal.specs.Refusal.{told_of}
 use Rattle.hamming.specs.declared.Encoded.{Encoded}
-use Rattle.hamming.specs.declared.Encoded.TheVariants as Encoded
 use Rattle.hamming.specs.declared.Checked.{Checked}
-use Rattle.hamming.specs.declared.Checked.TheVariants as Checked
 use Rattle.capi_words.specs.declared.Word.{Word}
 
 -- the result of a refused call

@@ -21,7 +21,6 @@ use Rattle.hamming.proofs.Exactly.{clean-only, mended-only, refused-only}
 use Rattle.map.specs.Map.{card_words, checked}
 use Rattle.card.specs.Card.{read_at, data_at, damaged_at, stray_at, mending_below, no_mending}
 use Rattle.card.specs.Inner.{read_of, counted}
-use Rattle.card.specs.declared.Read.{Read}
 
 module _ (image : List ℕ) (word : ℕ) where
   -- the three fields of `Read`, from the decoding of the word and from whether it is a codeword

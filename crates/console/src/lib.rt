@@ -2,28 +2,35 @@
 // ended. If standard error is empty, it succeeded; tools/run turns that line into an exit status.
 #![tactic(auto)]
 
-use libc::{STDERR_FILENO, STDIN_FILENO, STDOUT_FILENO};
 use refusal::{Told, Verdict};
+use std::io::{Read, Stdin};
+
+// The file descriptors of the three standard streams.
+pub const STDIN: i32 = 0;
+
+pub const STDOUT: i32 = 1;
+
+pub const STDERR: i32 = 2;
 
 // Writes text to standard output; returns false if that failed.
 pub fn put(text: &[u8]) -> bool {
-    io::write_all(STDOUT_FILENO, text)
+    io::write_all(STDOUT, text)
 }
 
 // Writes a tab and a number to standard output; returns false if that failed.
 pub fn tab_number(n: u64) -> bool {
-    put(b"\t") && io::print_decimal(STDOUT_FILENO, n)
+    put(b"\t") && io::print_decimal(STDOUT, n)
 }
 
 // Writes text to standard error.
 pub fn say(text: &[u8]) {
-    io::write_all(STDERR_FILENO, text);
+    io::write_all(STDERR, text);
 }
 
 // Writes a blank and a number to standard error.
 pub fn say_number(n: u64) {
     say(b" ");
-    io::print_decimal(STDERR_FILENO, n);
+    io::print_decimal(STDERR, n);
 }
 
 // Writes the last line of a program whose input is refused.
@@ -62,16 +69,19 @@ pub fn went(written: bool, verdict: Verdict) {
     };
 }
 
-// Whether the input has ended without a failure.
-pub fn ended() -> bool {
+// Whether the input has ended without a failure. It reads without a buffer, as `io::read_full` does, and so takes one byte at most.
+pub fn ended(mut input: Stdin) -> bool {
     let mut more = [0u8; 1];
-    libc::read(STDIN_FILENO, &mut more) == 0
+    match input.read(&mut more) {
+        Ok(n) => n == 0,
+        Err(_) => false,
+    }
 }
 
 // Whether the wanted number of bytes was read, or the whole input if it is shorter. False if reading failed.
-pub fn whole(count: usize, wanted: usize) -> bool {
+pub fn whole(input: Stdin, count: usize, wanted: usize) -> bool {
     if wanted <= count {
         return true;
     }
-    ended()
+    ended(input)
 }

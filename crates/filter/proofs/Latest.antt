@@ -1,20 +1,20 @@
 -- What a filter holds after any events, by induction over them; and so what it returns. Assumes nothing.
 use Prim.Native.Nat.{ℕ, zero, suc, ◌+◌, ◌-◌, ◌%◌, ◌<◌, ◌≤◌}
-use mathlib.Core.Path.{◌≡◌, refl, sym, ap, ◌∙◌}
+use mathlib.Core.Path.{◌≡◌, refl, sym, ◌∙◌}
 use mathlib.Core.Bool.{Bool, true, false}
 use mathlib.Core.List.{List, [], ◌∷◌}
 use native.Mathlib.Decide.{dec_le}
 use native.Mathlib.Omega.{arith}
 use lib.Dec.{ltb}
-use lib.IntN.{ℤ, pos, ◌+ℤ◌, ◌-ℤ◌}
+use lib.IntN.{ℤ, pos}
 use lib.ListN.{take, get_or, set, length, length-set, replicate}
 use lib.Seq.{get_or-set_same, get_or-set_other}
 use borrow.Author.Tests.{ltb-true, ltb-false, lt-ltb, le-ltb}
 use Rattle.lists.specs.Pick.{pick}
-use Rattle.lists.specs.All.{All, none, ◌also◌}
+use Rattle.lists.specs.All.{All, ◌also◌}
 use Rattle.floats.proofs.Exact.{over-exact}
 use Rattle.filter.specs.declared.Filter.{Filter}
-use Rattle.filter.specs.Filter.{size, empty, kept, next_turn, pushed, average_of}
+use Rattle.filter.specs.Filter.{empty, kept, pushed, average_of}
 use Rattle.filter.specs.Latest.{Event, push, reset, after, since, total, Raw, Says}
 use Rattle.filter.proofs.Sum.{inside}
 use Rattle.filter.proofs.Totals.{slid, small}

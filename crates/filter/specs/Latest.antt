@@ -1,7 +1,6 @@
 -- What a filter returns after any pushes and resets since it was new, stated by the readings alone. Assumes nothing.
-use Rattle.std.specs.Prelude.{ℕ, ◌<◌, ◌≤◌, ◌≡◌, List, [], ◌∷◌, ℤ, pos, ◌+ℤ◌, take, length, Float}
+use Rattle.std.specs.Prelude.{◌<◌, ◌≤◌, ◌≡◌, List, [], ◌∷◌, ℤ, pos, ◌+ℤ◌, take, length}
 use Rattle.std.specs.Int.Signed.{mag}
-use Rattle.lists.specs.All.{All}
 use Rattle.floats.specs.Exact.{Exactly}
 use Rattle.filter.specs.declared.Filter.{Filter}
 use Rattle.filter.specs.declared.Steadied.TheVariants.{NotYet, Average}

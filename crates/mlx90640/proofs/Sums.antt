@@ -1,5 +1,5 @@
 -- The difference and the sum of any two corrections of five bits are exact, by one computed test over all pairs. Assumes nothing.
-use mathlib.Core.Path.{◌≡◌, refl}
+use mathlib.Core.Path.{refl}
 use mathlib.Core.Bool.{Bool, true, false}
 use Prim.Native.Nat.{ℕ, suc, ◌*◌, ◌^◌, ◌<◌}
 use lib.Dec.{T, eqb, eqb→eq}

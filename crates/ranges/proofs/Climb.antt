@@ -1,5 +1,5 @@
 -- A list of coefficients that is right between two ranges stays so with one more entry, above or below; and the two halves together are all. Assumes nothing.
-use Rattle.std.proofs.Common.{◌≡◌, ℕ, ◌+◌, ◌<◌, ◌≤◌, true, List, length, get_or, set, ℤ, sym, refl, ◌∙◌, subst, arith, length-set, get_or-set_other, get_or-set_same, ext_get_or}
+use Rattle.std.proofs.Common.{◌≡◌, ℕ, ◌+◌, ◌<◌, ◌≤◌, List, length, get_or, set, ℤ, sym, refl, ◌∙◌, subst, arith, length-set, get_or-set_other, get_or-set_same, ext_get_or}
 use native.Mathlib.Decide.{dec_le}
 use lib.Ieee.{Float, nan}
 use Rattle.lists.specs.Written.{filled}

@@ -5,7 +5,6 @@
 #![tactic(auto)]
 
 use console::{put, tab_number};
-use libc::{STDIN_FILENO, STDOUT_FILENO};
 use listing::{CHECKED_WORDS, UNCHECKED_WORDS};
 use map::{IMAGE_BYTES, WORDS};
 use refusal::Verdict;
@@ -15,11 +14,11 @@ fn end_line(word: usize) -> bool {
 }
 
 fn checked_line(word: usize, data: u16) -> bool {
-    io::print_decimal(STDOUT_FILENO, data as u64) && end_line(word)
+    io::print_decimal(console::STDOUT, data as u64) && end_line(word)
 }
 
 fn unchecked_line(word: usize, bits: u16) -> bool {
-    put(b"0x") && io::print_hex(STDOUT_FILENO, bits as u64, 4) && end_line(word)
+    put(b"0x") && io::print_hex(console::STDOUT, bits as u64, 4) && end_line(word)
 }
 
 // The number of entries written of each list, and whether all writing succeeded.
@@ -82,10 +81,10 @@ fn read_card(image: &[u8]) {
     console::went(word_lines(&data, &others), verdict);
 }
 
-fn main() {
+fn main(rt: HostRuntime) {
     let mut buffer = io::buffer();
-    let n = io::read_full(STDIN_FILENO, &mut buffer);
-    if console::whole(n, IMAGE_BYTES) {
+    let n = io::read_full(console::STDIN, &mut buffer);
+    if console::whole(rt.stdin(), n, IMAGE_BYTES) {
         read_card(&buffer[..n]);
     } else {
         console::failed_reading();

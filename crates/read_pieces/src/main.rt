@@ -11,7 +11,6 @@
 ghost use Rattle.std.specs.Prelude.{◌≤◌, length};
 
 use console::{put, tab_number};
-use libc::STDIN_FILENO;
 use map::{BASIC_RANGE, IMAGE_BYTES, PIXELS};
 use offsets::Offset;
 use reader::{Answer, Image, Reading, Taken};
@@ -65,7 +64,7 @@ fn next_size() -> usize
     ensures { result ≤ 65536 }
 {
     let mut two = [0u8; 2];
-    let n = io::read_full(STDIN_FILENO, &mut two);
+    let n = io::read_full(console::STDIN, &mut two);
     if n < 2 {
         return ENDED;
     }
@@ -94,7 +93,7 @@ fn take(image: &mut Image, reading: Reading, piece: &[u8], settings: Settings) -
 
 // Takes the next piece of the input, as many bytes as fit in `room` or came.
 fn take_next(image: &mut Image, reading: Reading, room: &mut [u8], settings: Settings) -> Taken {
-    let n = io::read_full(STDIN_FILENO, room);
+    let n = io::read_full(console::STDIN, room);
     take(image, reading, &room[..n], settings)
 }
 
@@ -214,11 +213,11 @@ fn run(most: u64) -> bool {
     true
 }
 
-fn main() {
+fn main(rt: HostRuntime) {
     let written = run(0xFFFFFFFFFFFFFFFF);
     if !written {
         console::failed_writing();
-    } else if !console::ended() {
+    } else if !console::ended(rt.stdin()) {
         console::failed_reading();
     }
 }

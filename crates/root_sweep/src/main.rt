@@ -6,8 +6,10 @@
 
 ghost use Rattle.std.specs.Prelude.{◌<◌, ◌≤◌};
 
-use libc::STDOUT_FILENO;
 use roots::SIDE;
+
+// The file descriptor of standard output.
+const STDOUT: i32 = 1;
 
 // The bits of 1.
 const ONE: u32 = 0x3F80_0000;
@@ -121,10 +123,10 @@ fn sweep_side_by_side() -> u64 {
 }
 
 fn line(name: &[u8], number: u64) {
-    io::write_all(STDOUT_FILENO, name);
-    io::write_all(STDOUT_FILENO, b"\t");
-    io::print_decimal(STDOUT_FILENO, number);
-    io::write_all(STDOUT_FILENO, b"\n");
+    io::write_all(STDOUT, name);
+    io::write_all(STDOUT, b"\t");
+    io::print_decimal(STDOUT, number);
+    io::write_all(STDOUT, b"\n");
 }
 
 fn main() {

@@ -32,11 +32,15 @@ module _ (bits : List ℕ) {d : List Float} {count i r : ℕ} (s : Leaves bits d
   one : Each (λ (k : ℕ) (y : Float). (y ≡ plus_zero) ⊎ (y ≡ root (number_at bits k))) nan (set d i (of_bits binary32 r)) (i + 1)
   one = one_more s.each l (⊎_elim (λ e. inl (ap (of_bits binary32) e)) (λ h. inr (right-root (get_or bits i 0) r f h)) (eq-zero-or-pos r))
 
-  pub left : Leaves bits (set d i (of_bits binary32 r)) (count + 1) (i + 1)
+  left : Leaves bits (set d i (of_bits binary32 r)) (count + 1) (i + 1)
   left = record { each = one; all = λ h. absurd (let p : ⊥ = omega arith in p) }
 
-  pub there : 0 < r → Leaves bits (set d i (of_bits binary32 r)) count (i + 1)
+  there : 0 < r → Leaves bits (set d i (of_bits binary32 r)) count (i + 1)
   there h = record { each = one; all = λ e. one_more (s.all e) l (right-root (get_or bits i 0) r f h) }
+
+  -- n is the count after it
+  pub counted : {n : ℕ} → (r ≡ 0 → n ≡ count + 1) → (0 < r → n ≡ count) → Leaves bits (set d i (of_bits binary32 r)) n (i + 1)
+  counted z p = ⊎_elim (λ e. rw (z e) left) (λ h. rw (p h) (there h)) (eq-zero-or-pos r)
 
 -- from the bits of the numbers to the numbers
 module _ (x : List Float) (z bits : List ℕ) (e : bits ≡ filled (pattern_at x) side z) (l : side ≤ length z) (f : Each IsF32 nan x side) where

@@ -4,8 +4,10 @@
 
 mod lines;
 
-use libc::STDIN_FILENO;
 use lines::First;
+
+// The file descriptor of standard input.
+const STDIN: i32 = 0;
 
 // An upper bound on the number of cases in a stream.
 const MOST: u64 = 1000000;
@@ -26,7 +28,7 @@ const CUT: u16 = 0xFFFE;
 
 fn next_head() -> Head {
     let mut block = [0u8; 12];
-    let n = io::read_full(STDIN_FILENO, &mut block);
+    let n = io::read_full(STDIN, &mut block);
     Head {
         kind: if n == 0 {
             ENDED
@@ -44,7 +46,7 @@ fn next_head() -> Head {
 // Reads name, input and answer. Returns false if the stream ends within them, or they are longer than `case`.
 fn read_rest(head: Head, case: &mut [u8]) -> bool {
     let length = stream::after(head.name, stream::after(head.input, head.answer));
-    io::read_full(STDIN_FILENO, stream::bytes_mut(case, length)) == length
+    io::read_full(STDIN, stream::bytes_mut(case, length)) == length
 }
 
 // The shelf holds the camera and the frame that the following cases use. Its first bytes, this many, are for the MLX90641, the rest for the MLX90640.

@@ -1,5 +1,7 @@
 // The lines that the runner writes.
-use libc::STDOUT_FILENO;
+
+// The file descriptor of standard output.
+const STDOUT: i32 = 1;
 
 // In place of a number of bytes: the stream ends within the case, or the kind is unknown.
 pub const CUT_OFF: usize = 0xFFFF_FFFF_FFFF_FFFF;
@@ -40,55 +42,46 @@ pub fn earlier(first: First, next: First) -> First {
 }
 
 fn put(text: &[u8]) {
-    io::write_all(STDOUT_FILENO, text);
+    io::write_all(STDOUT, text);
 }
 
 fn put_number(n: u64) {
-    io::print_decimal(STDOUT_FILENO, n);
+    io::print_decimal(STDOUT, n);
 }
 
 fn kind_name(kind: u16) -> bool {
     match kind {
-        stream::ENCODE => io::write_all(STDOUT_FILENO, b"encode"),
-        stream::CHECK => io::write_all(STDOUT_FILENO, b"check"),
-        stream::LOAD => io::write_all(STDOUT_FILENO, b"load"),
-        stream::ROW => io::write_all(STDOUT_FILENO, b"row"),
-        stream::SUBPAGE => io::write_all(STDOUT_FILENO, b"subpage"),
-        stream::READ_WORDS => io::write_all(STDOUT_FILENO, b"read words"),
-        stream::WRITE => io::write_all(STDOUT_FILENO, b"write"),
-        stream::SCRUB => io::write_all(STDOUT_FILENO, b"scrub"),
-        stream::BURN => io::write_all(STDOUT_FILENO, b"burn"),
-        stream::PIECES => io::write_all(STDOUT_FILENO, b"pieces"),
-        stream::FILTER => io::write_all(STDOUT_FILENO, b"filter"),
-        stream::INFRARED => io::write_all(STDOUT_FILENO, b"infrared"),
-        stream::ONE_PASS => io::write_all(STDOUT_FILENO, b"one pass"),
-        stream::SECOND_PASS => io::write_all(STDOUT_FILENO, b"second pass"),
-        stream::FILTERED_INFRARED => io::write_all(STDOUT_FILENO, b"filtered infrared"),
-        stream::FILTERED_ONE_PASS => io::write_all(STDOUT_FILENO, b"filtered one pass"),
-        stream::FILTERED_SECOND_PASS => io::write_all(STDOUT_FILENO, b"filtered second pass"),
-        stream::TEMPERATURES => io::write_all(STDOUT_FILENO, b"temperatures"),
-        stream::WORD => io::write_all(STDOUT_FILENO, b"MLX90640 word"),
-        stream::SPLIT => io::write_all(STDOUT_FILENO, b"MLX90640 split"),
-        stream::PIXEL => io::write_all(STDOUT_FILENO, b"MLX90640 pixel"),
-        stream::LOAD_640 => io::write_all(STDOUT_FILENO, b"MLX90640 load"),
-        stream::MASK_640 => io::write_all(STDOUT_FILENO, b"MLX90640 mask"),
-        stream::INFRARED_640 => io::write_all(STDOUT_FILENO, b"MLX90640 infrared"),
-        stream::ONE_PASS_640 => io::write_all(STDOUT_FILENO, b"MLX90640 one pass"),
-        stream::SECOND_PASS_640 => io::write_all(STDOUT_FILENO, b"MLX90640 second pass"),
-        stream::FILTERED_INFRARED_640 => io::write_all(
-            STDOUT_FILENO,
-            b"MLX90640 filtered infrared",
-        ),
-        stream::FILTERED_ONE_PASS_640 => io::write_all(
-            STDOUT_FILENO,
-            b"MLX90640 filtered one pass",
-        ),
-        stream::FILTERED_SECOND_PASS_640 => io::write_all(
-            STDOUT_FILENO,
-            b"MLX90640 filtered second pass",
-        ),
-        stream::TEMPERATURES_640 => io::write_all(STDOUT_FILENO, b"MLX90640 temperatures"),
-        _ => io::write_all(STDOUT_FILENO, b"unknown kind"),
+        stream::ENCODE => io::write_all(STDOUT, b"encode"),
+        stream::CHECK => io::write_all(STDOUT, b"check"),
+        stream::LOAD => io::write_all(STDOUT, b"load"),
+        stream::ROW => io::write_all(STDOUT, b"row"),
+        stream::SUBPAGE => io::write_all(STDOUT, b"subpage"),
+        stream::READ_WORDS => io::write_all(STDOUT, b"read words"),
+        stream::WRITE => io::write_all(STDOUT, b"write"),
+        stream::SCRUB => io::write_all(STDOUT, b"scrub"),
+        stream::BURN => io::write_all(STDOUT, b"burn"),
+        stream::PIECES => io::write_all(STDOUT, b"pieces"),
+        stream::FILTER => io::write_all(STDOUT, b"filter"),
+        stream::INFRARED => io::write_all(STDOUT, b"infrared"),
+        stream::ONE_PASS => io::write_all(STDOUT, b"one pass"),
+        stream::SECOND_PASS => io::write_all(STDOUT, b"second pass"),
+        stream::FILTERED_INFRARED => io::write_all(STDOUT, b"filtered infrared"),
+        stream::FILTERED_ONE_PASS => io::write_all(STDOUT, b"filtered one pass"),
+        stream::FILTERED_SECOND_PASS => io::write_all(STDOUT, b"filtered second pass"),
+        stream::TEMPERATURES => io::write_all(STDOUT, b"temperatures"),
+        stream::WORD => io::write_all(STDOUT, b"MLX90640 word"),
+        stream::SPLIT => io::write_all(STDOUT, b"MLX90640 split"),
+        stream::PIXEL => io::write_all(STDOUT, b"MLX90640 pixel"),
+        stream::LOAD_640 => io::write_all(STDOUT, b"MLX90640 load"),
+        stream::MASK_640 => io::write_all(STDOUT, b"MLX90640 mask"),
+        stream::INFRARED_640 => io::write_all(STDOUT, b"MLX90640 infrared"),
+        stream::ONE_PASS_640 => io::write_all(STDOUT, b"MLX90640 one pass"),
+        stream::SECOND_PASS_640 => io::write_all(STDOUT, b"MLX90640 second pass"),
+        stream::FILTERED_INFRARED_640 => io::write_all(STDOUT, b"MLX90640 filtered infrared"),
+        stream::FILTERED_ONE_PASS_640 => io::write_all(STDOUT, b"MLX90640 filtered one pass"),
+        stream::FILTERED_SECOND_PASS_640 => io::write_all(STDOUT, b"MLX90640 filtered second pass"),
+        stream::TEMPERATURES_640 => io::write_all(STDOUT, b"MLX90640 temperatures"),
+        _ => io::write_all(STDOUT, b"unknown kind"),
     }
 }
 

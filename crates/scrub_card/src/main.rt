@@ -5,7 +5,6 @@
 #![tactic(auto)]
 
 use console::{say, say_number};
-use libc::STDIN_FILENO;
 use listing::CHECKED_WORDS;
 use refusal::Verdict;
 use scrub::Counts;
@@ -59,11 +58,11 @@ fn scrub_card(card: &mut [u8]) {
     }
 }
 
-fn main() {
+fn main(rt: HostRuntime) {
     let mut buffer = io::large_buffer();
-    let n = io::read_full(STDIN_FILENO, &mut buffer);
+    let n = io::read_full(console::STDIN, &mut buffer);
     let room = buffer.len();
-    if console::ended() {
+    if console::ended(rt.stdin()) {
         scrub_card(&mut buffer[..n]);
     } else if n < room {
         console::failed_reading();

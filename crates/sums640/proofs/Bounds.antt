@@ -9,7 +9,6 @@ use borrow.Author.Tests.{lt-ltb}
 use Rattle.util.specs.Fields.{in_i16}
 use Rattle.sums640.specs.Sums.{pixel_count, rest_scale, first_outside}
 use Rattle.sums640.specs.Inner.{base_bound}
-use Rattle.sums640.specs.First.{Inside}
 use Rattle.sums640.proofs.Range.{offset-within, alpha-base-within, alpha-rest-within, k-ta-sum-within}
 use Rattle.sums640.proofs.First.{passes, first-is}
 

@@ -13,7 +13,6 @@ use Rattle.util.proofs.Width.{stands}
 use Rattle.util.proofs.Range.{sum-mag}
 use Rattle.mlx90640.specs.Pixels.{row, column, chessboard_at}
 use Rattle.map640.specs.declared.Field.{Field}
-use Rattle.map640.specs.declared.Field.TheVariants.{Scales}
 use Rattle.map640.specs.Map.{word_of}
 use Rattle.sums640.specs.Sums.{scaled, row_scale, column_scale, rest_scale, coefficient_at, Part, offset_part, alpha_part, scales_of, row_sum_at, column_at, base_at, pixel_word, offset_at, average_bytes, average_at, alpha_base_at, alpha_rest_at, k_ta_sum_at}
 use Rattle.sums640.specs.Inner.{base_bound, nibble_at}

@@ -1,20 +1,19 @@
 -- The field, by the map, of the word that a shared number is read from: rows, columns or averages, exactly for the indices of the list that have rows,
 -- columns or averages. By computed tests over all indices. Assumes nothing.
 use Prim.Native.Nat.{ℕ, ◌<◌, ◌≤◌}
-use mathlib.Core.Path.{◌≡◌, sym, ap, subst}
+use mathlib.Core.Path.{◌≡◌, refl, sym, ap, subst}
 use mathlib.Core.Bool.{Bool, true, not}
 use mathlib.Core.List.{List, [], ◌∷◌}
 use native.Mathlib.Omega.{arith}
 use lib.Dec.{T, eqb, leb, ltb, leb→le, ltb→lt}
 use mir.Val.{has_key}
-use types.Run.{OneOf, miss}
 use denote.Enum.Declared.{tag_of}
 use borrow.Author.Tests.{eq-eqb, lt-ltb}
 use Rattle.lists.specs.Pick.{pick}
 use Rattle.lists.proofs.Every.{both, both_left, both_right, every, at}
 use Rattle.map640.specs.contracts.Field.{the_type}
 use Rattle.map640.specs.declared.Field.{Field}
-use Rattle.map640.specs.declared.Field.TheVariants.{OffsetRow, OffsetColumn, AlphaRow, AlphaColumn, KTaAverage}
+use Rattle.map640.specs.declared.Field.TheVariants.{NotRead, OffsetScales, OffsetAverage, OffsetRow, OffsetColumn, AlphaScales, AlphaAverage, AlphaRow, AlphaColumn, Gain, VPtat25, Ptat, VDd, KV, Access, KTaAverage, Scales, AlphaCp, OffsetCp, KCp, KSTa, KSTo, Corners, Pixel}
 use Rattle.map640.specs.Map.{field_of}
 use Rattle.sums640.specs.Inner.{shared_count, shared_word}
 
@@ -67,7 +66,35 @@ all_known : (k : ℕ) → k < 128 → T (known k)
 unfolding field_of shared_word
 all_known = at known 7 tt
 
-pub no_other : {k : ℕ} (field : Field) → k < shared_count → field ≡ field_of (shared_word k) → OneOf others (tag field) → ⊥
-no_other {k} field h e o =
-    miss others (tag_at k) (subst (λ (b : Bool). T (pick b (not (has_key others (tag_at k))) true)) (lt-ltb k shared_count h) (all_known k (omega arith)))
-    (subst (λ (f : Field). OneOf others (tag f)) e o)
+-- a field whose number is not among them is one of the five
+five : (field : Field) → T (not (has_key others (tag field))) → (field ≡ OffsetRow → ⊥) → (field ≡ OffsetColumn → ⊥) → (field ≡ AlphaRow → ⊥) → (field ≡ AlphaColumn → ⊥) → (field ≡ KTaAverage → ⊥) → ⊥
+five NotRead t a b c d e = t
+five OffsetScales t a b c d e = t
+five OffsetAverage t a b c d e = t
+five OffsetRow t a b c d e = a refl
+five OffsetColumn t a b c d e = b refl
+five AlphaScales t a b c d e = t
+five AlphaAverage t a b c d e = t
+five AlphaRow t a b c d e = c refl
+five AlphaColumn t a b c d e = d refl
+five Gain t a b c d e = t
+five VPtat25 t a b c d e = t
+five Ptat t a b c d e = t
+five VDd t a b c d e = t
+five KV t a b c d e = t
+five Access t a b c d e = t
+five KTaAverage t a b c d e = e refl
+five Scales t a b c d e = t
+five AlphaCp t a b c d e = t
+five OffsetCp t a b c d e = t
+five KCp t a b c d e = t
+five KSTa t a b c d e = t
+five KSTo t a b c d e = t
+five Corners t a b c d e = t
+five Pixel t a b c d e = t
+
+pub no_other : {k : ℕ} (field : Field) → k < shared_count → field ≡ field_of (shared_word k) → (field ≡ OffsetRow → ⊥) → (field ≡ OffsetColumn → ⊥) → (field ≡ AlphaRow → ⊥) → (field ≡ AlphaColumn → ⊥) → (field ≡ KTaAverage → ⊥) → ⊥
+no_other {k} field h e =
+    five field
+    (subst (λ (f : Field). T (not (has_key others (tag f)))) (sym e)
+    (subst (λ (b : Bool). T (pick b (not (has_key others (tag_at k))) true)) (lt-ltb k shared_count h) (all_known k (omega arith))))

@@ -9,7 +9,6 @@ mod text;
 
 ghost use Rattle.std.specs.Prelude.{◌≤◌};
 
-use libc::STDIN_FILENO;
 use listing::{CHECKED_WORDS, UNCHECKED_WORDS};
 use map::{IMAGE_BYTES, WORDS};
 use refusal::{Told, Verdict};
@@ -153,11 +152,11 @@ fn write_text(text: &[u8], cut: bool) {
     }
 }
 
-fn main() {
+fn main(rt: HostRuntime) {
     let mut buffer = io::large_buffer();
-    let n = io::read_full(STDIN_FILENO, &mut buffer);
+    let n = io::read_full(console::STDIN, &mut buffer);
     let room = buffer.len();
-    if console::whole(n, room) {
+    if console::whole(rt.stdin(), n, room) {
         write_text(&buffer[..n], n == room);
     } else {
         console::failed_reading();

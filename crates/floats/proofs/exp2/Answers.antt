@@ -1,5 +1,4 @@
 -- `floats::exp2` meets its contract: the bits are right for e below 128 and from there on. Assumes nothing.
-use borrow.Author.Rules.{rules}
 use native.Mathlib.Omega.{arith}
 use mathlib.Core.Path.{sym, ◌∙◌}
 use Rattle.floats.proofs.Nan.{number-below}

@@ -1,5 +1,4 @@
 -- `floats::from_bits` meets its contract: the bits that its test selects are exactly those of NaN. Assumes nothing.
-use borrow.Author.Rules.{rules}
 use native.Mathlib.Omega.{arith}
 use mathlib.Core.Path.{sym, ◌∙◌}
 use Rattle.floats.proofs.Nan.{zero_by_zero, nan-above, number-below}

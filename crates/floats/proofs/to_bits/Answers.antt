@@ -1,6 +1,5 @@
 -- `floats::to_bits` meets its contract: only NaN differs from itself, and any other value has exactly one pattern of bits.
 -- Assumes nothing.
-use borrow.Author.Rules.{rules}
 use mathlib.Core.Path.{sym, ap, ◌∙◌, subst}
 use lib.Dec.{T}
 use lib.Ieee.{binary32, to_bits}

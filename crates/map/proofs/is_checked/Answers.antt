@@ -1,5 +1,4 @@
 -- `map::is_checked` meets its contract: the role decides. Assumes nothing.
-use borrow.Author.Rules.{rules}
 use mathlib.Core.Path.{sym, ap, ◌∙◌}
 use Rattle.map.specs.Map.{is_checked, checked}
 use Rattle.map.proofs.is_checked.Goals as goal

@@ -1,6 +1,5 @@
 -- `util::i16_from_bits` meets its contract: low bits below the half are the number itself; otherwise the number is -1 - (2 ^ k - 1 - low).
 -- Assumes nothing.
-use borrow.Author.Rules.{rules}
 use mathlib.Core.Path.{◌≡◌, sym, ap, ◌∙◌, subst}
 use Prim.Native.Nat.{ℕ, suc, ◌-◌, ◌*◌, ◌/◌, ◌%◌, ◌^◌, ◌<◌, ◌≤◌}
 use native.Mathlib.Nat.{mod-lt}

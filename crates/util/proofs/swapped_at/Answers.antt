@@ -1,5 +1,4 @@
 -- `util::swapped_at` meets its contract: both bytes are in range, and exchanging them twice gives the word. Assumes nothing.
-use borrow.Author.Rules.{rules}
 use mathlib.Core.Path.{ap, ◌∙◌}
 use Prim.Native.Nat.{◌+◌, ◌*◌}
 use Rattle.util.specs.Words.{swapped, word_at}

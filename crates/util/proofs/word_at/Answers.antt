@@ -1,5 +1,4 @@
 -- `util::word_at` meets its contract: both bytes are in range. Assumes nothing.
-use borrow.Author.Rules.{rules}
 use Rattle.util.specs.Words.{word_at}
 use Rattle.util.proofs.word_at.Goals as goal
 

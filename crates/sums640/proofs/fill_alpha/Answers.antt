@@ -1,0 +1,19 @@
+-- `sums640::fill_alpha` meets its contract: entry after entry. Assumes nothing.
+use Rattle.lists.proofs.Fill as fill
+use Rattle.lists.proofs.Fill.{Filling}
+use Rattle.sums640.proofs.fill_alpha.Goals as goal
+
+pub loop-pixel-init : goal.loop-pixel-init
+loop-pixel-init c = fill.start _ _ _
+
+pub alpha_at-requires : goal.alpha_at-requires
+alpha_at-requires c = record {
+  pixel_lt_pixel_count = (c.loop-pixel-test.true, c.requires.in_bounds.0, c.requires.in_bounds.1);
+  shared = c.requires.in_bounds.2;
+}
+
+pub loop-pixel-preserved : goal.loop-pixel-preserved
+loop-pixel-preserved c = fill.one_more _ c.loop-pixel.invariant c.loop-pixel-test.true c.alpha_at.ensures
+
+pub returns : goal.returns
+returns c = fill.done _ c.loop-pixel.invariant c.loop-pixel-test.false
