@@ -3,7 +3,7 @@
 use Rattle.std.specs.Prelude.{ℕ, ◌+◌, ◌*◌, ◌/◌, ◌%◌, ◌^◌, List, [], ◌∷◌, eqb, Float, replicate, ℤ, pos, ◌+ℤ◌, ◌-ℤ◌, ◌*ℤ◌}
 use Rattle.lists.specs.Pick.{pick}
 use Rattle.floats.specs.Constants.{one, plus_zero}
-use Rattle.floats.specs.Floats.{real, power_of_two, over, ◌⊕◌, ◌⊗◌}
+use Rattle.floats.specs.Floats.{real, over, ◌⊕◌, ◌⊗◌}
 use Rattle.util.specs.Fields.{signed, minus}
 use Rattle.camera.specs.declared.Gradient.{Gradient}
 use Rattle.camera.specs.declared.Gradient.TheVariants.{Coefficient, Missing}

@@ -1,0 +1,23 @@
+use borrow.Author.Rules.{rules}
+use Prim.Native.Nat.{ℕ, ◌-◌, ◌≤◌, ◌<◌}
+use mathlib.Core.Path.{◌≡◌, ap, ◌∙◌}
+use native.Mathlib.Nat.{le_refl}
+use native.Mathlib.Omega.{arith}
+use lib.ListN.{get_or}
+use lib.Seq.{get_or-set_other}
+use lib.Ieee.{Float, nan}
+use Rattle.lists.proofs.Each.{Entering, begun, entered, all-entered}
+use Rattle.floats.specs.Floats.{◌⊖◌}
+use Rattle.floats.specs.Constants.{freezing}
+use Rattle.root.specs.Root.{celsius}
+use Rattle.roots.specs.Many.{side, IsRoot}
+use Rattle.pixels.specs.Inner.{celsius_at}
+use Rattle.pixels.specs.Blocks.{is}
+use Rattle.pixels.proofs.degrees_block.Given as goal
+
+abbrev pub invariant-loop-i : goal.invariant-loop-i
+invariant-loop-i l =
+    Entering (is (celsius_at l.values)) nan side l.initial.temperatures l.temperatures l.i × ((k : ℕ) → l.i ≤ k → k < side → IsRoot l.values k (get_or l.temperatures k nan))
+
+abbrev pub decreases-loop-i : goal.decreases-loop-i
+decreases-loop-i l = side - l.i

@@ -1,0 +1,17 @@
+use borrow.Author.Rules.{rules}
+use Prim.Native.Nat.{ℕ, ◌+◌, ◌-◌}
+use mathlib.Core.Path.{◌≡◌, ap, ◌∙◌}
+use lib.Ieee.{Float, nan}
+use Rattle.lists.proofs.Each.{Entering, begun, entered, all-entered}
+use Rattle.roots.specs.Many.{side}
+use Rattle.formulas.specs.Inner.{lifted_from}
+use Rattle.pixels.specs.Inner.{rooted_at, v}
+use Rattle.pixels.specs.Blocks.{is}
+use Rattle.pixels.proofs.final_values.Given as goal
+
+abbrev pub invariant-loop-i : goal.invariant-loop-i
+invariant-loop-i l =
+    Entering (is (λ (i : ℕ). rooted_at l.common l.alpha (v l.numbers i) (l.base + i) (v l.roots i))) nan side l.initial.values l.values l.i
+
+abbrev pub decreases-loop-i : goal.decreases-loop-i
+decreases-loop-i l = side - l.i

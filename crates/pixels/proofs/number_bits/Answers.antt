@@ -1,0 +1,17 @@
+-- `pixels::number_bits` meets its contract: entry by entry. Assumes nothing.
+use borrow.Author.Rules.{rules}
+use Prim.Native.Nat.{ℕ, ◌-◌}
+use Rattle.lists.proofs.Each.{Entering, begun, entered, all-entered}
+use Rattle.roots.specs.Many.{side}
+use Rattle.pixels.specs.Inner.{number_bits}
+use Rattle.pixels.specs.Blocks.{IsNat, lost_flag}
+use Rattle.pixels.proofs.number_bits.Goals as goal
+
+pub loop-i-init : goal.loop-i-init
+loop-i-init c = (begun _, begun _)
+
+pub loop-i-preserved : goal.loop-i-preserved
+loop-i-preserved c = (entered c.loop-i.invariant.0 (search rules) (search rules) c.to_bits.ensures, entered c.loop-i.invariant.1 (search rules) (search rules) c.lost_flag.ensures)
+
+pub returns : goal.returns
+returns c = record { bits_are = all-entered c.loop-i.invariant.0 (search rules); flags_are = all-entered c.loop-i.invariant.1 (search rules) }

@@ -1,0 +1,14 @@
+-- `pixels::real` meets its contract: only the sum of the two halves rounds. Assumes nothing.
+use mathlib.Core.Path.{sym, ap₂, ◌∙◌, subst}
+use lib.Dec.{T}
+use lib.IntN.{ℤ}
+use lib.Ieee.{binary32, add, mul, of_int, in_float}
+use Rattle.pixels.proofs.Halves.{shift, upper_is, lower-is, upper_in, lower_in, halves}
+use Rattle.pixels.proofs.real.Goals as goal
+
+pub returns : goal.returns
+returns c =
+    let s = c in
+    let z = s.args.offset in
+    ap₂ (λ (u l : ℤ). add binary32 (mul binary32 (of_int binary32 u) shift) (of_int binary32 l)) (upper_is z s.ranges.offset) (lower-is z s.ranges.offset)
+    ∙ halves z s.ranges.offset
