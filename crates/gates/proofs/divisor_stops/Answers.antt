@@ -6,7 +6,7 @@ use mir.Facts.{to_z-of_z}
 use mir.Syntax.{w16}
 use mir.Val.{to_z, of_z}
 use Rattle.floats.specs.Floats.{real, is_zero}
-use Rattle.formulas.specs.Frame.{delta_of, ptat_correction_of}
+use Rattle.formulas.specs.Frame.{ptat_correction_of}
 use Rattle.gates.specs.Gate.{zero_divisor}
 use Rattle.gates.proofs.divisor_stops.Goals as goal
 

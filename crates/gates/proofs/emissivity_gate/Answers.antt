@@ -1,5 +1,4 @@
 -- `gates::emissivity_gate` meets its contract: each return is one line of the definition. Assumes nothing.
-use borrow.Author.Rules.{rules}
 use mathlib.Core.Path.{refl, sym, ◌∙◌}
 use Rattle.refusal.specs.Order.{first_of}
 use Rattle.gates.specs.Gate.{emissivity_tests}

@@ -1,6 +1,6 @@
 -- `gates::length_gate` meets its contract: each return is one line of the definition. Assumes nothing.
 use borrow.Author.Tests.{lt-ltb, le-ltb}
-use Prim.Native.Nat.{◌*◌, ◌≤◌}
+use Prim.Native.Nat.{◌*◌}
 use native.Mathlib.Omega.{arith}
 use Rattle.refusal.specs.Order.{first_of}
 use Rattle.gates.specs.Gate.{length_tests}

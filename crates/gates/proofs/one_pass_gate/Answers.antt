@@ -1,5 +1,4 @@
 -- `gates::one_pass_gate` meets its contract: the lists of tests, one after another. Assumes nothing.
-use borrow.Author.Rules.{rules}
 use Rattle.refusal.proofs.Order.{in-turn}
 use Rattle.gates.proofs.one_pass_gate.Goals as goal
 

@@ -1,9 +1,7 @@
 -- `gates::reading_gate` meets its contract: each return is one line of the definition. Assumes nothing.
-use borrow.Author.Rules.{rules}
-use mathlib.Core.Path.{◌≡◌, sym, ◌∙◌}
-use mathlib.Core.Bool.{false}
+use mathlib.Core.Path.{sym, ◌∙◌}
 use Rattle.refusal.specs.Order.{first_of}
-use Rattle.gates.specs.Gate.{supply_outside, zero_divisor, reading_tests}
+use Rattle.gates.specs.Gate.{reading_tests}
 use Rattle.gates.proofs.reading_gate.Goals as goal
 
 pub returns-then-supply_stops : goal.returns-then-supply_stops
