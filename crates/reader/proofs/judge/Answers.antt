@@ -12,8 +12,8 @@ use Rattle.reader.specs.declared.Answer.{Answer}
 use Rattle.reader.specs.Bytes.{Held, held}
 use Rattle.reader.specs.Calls.{more, ends, refused, judged, judges}
 use Rattle.reader.proofs.Loading.{load_is}
-use Rattle.reader.proofs.judge.Statement.{statement}
-use Rattle.reader.proofs.judge.Tie as tie
+use Rattle.reader.proofs.judge.Goals as goal
+use Rattle.reader.proofs.judge.Goals.{Start}
 
 -- the cases of the definition
 module _ (h : Held) (range : ℕ) (t : Tables) where
@@ -30,43 +30,26 @@ module _ (h : Held) (range : ℕ) (t : Tables) where
   unfolding judges
   whole u r d l p = rw (le-ltb _ _ d, le-ltb _ _ l, (load_is p).0, (load_is p).1) refl
 
-module _ (s : tie.Start) where
+module _ (s : Start) where
   abbrev state : Held
   state = held s.args.image.now s.args.kept
 
   abbrev lent : Tables
-  lent = let a = s.args in tables a.offsets0.now a.offsets1.now a.alpha.now a.k_v.now a.k_ta.now
+  lent = let a = s.args in tables a.offsets0-1.now a.offsets1-1.now a.alpha-1.now a.k_v-1.now a.k_ta-1.now
 
-returns : tie.Need-returns
+pub returns-then-word-lt-WORDS : goal.returns-then-word-lt-WORDS
+returns-then-word-lt-WORDS c =
+    let s = c in
+    ap (λ (a : Answer). judged a (lent s)) c.refuse.ensures ∙ a_word (state s) s.args.basic_range (lent s) _ c.if-word-lt-WORDS.true c.word_at-bits.ensures
+
+pub returns-then-kept-lt-IMAGE_BYTES : goal.returns-then-kept-lt-IMAGE_BYTES
+returns-then-kept-lt-IMAGE_BYTES c =
+    let s = c in
+    ap (λ (a : Answer). judged a (lent s)) c.want_more.ensures ∙ wanted (state s) s.args.basic_range (lent s) c.if-word-lt-WORDS.false c.if-kept-lt-IMAGE_BYTES.true
+
+pub returns : goal.returns
 returns c =
-    let s = c.before.before.before.before.before.before.before in
-    ap (λ (a : Answer). judged a (lent s)) c.refuse.ensures ∙ a_word (state s) s.args.basic-range (lent s) _ c.before.before.before.if1.true c.before.word_at.ensures
-
-returns-2 : tie.Need-returns-2
-returns-2 c =
-    let s = c.before.before.before.before.before.before.before in
-    ap (λ (a : Answer). judged a (lent s)) c.want-more.ensures ∙ wanted (state s) s.args.basic-range (lent s) c.before.before.before.if1.false c.before.if2.true
-
-returns-3 : tie.Need-returns-3
-returns-3 c =
-    let l = c.before.before.before.before.before.before.before.before in
-    let e = l.before.before.before.before.before.before.before in
-    let s = e.before.before.before.before.before.before in
-    whole (state s) s.args.basic-range (lent s) _ _ e.before.before.if1.false e.if2.false l.load.ensures
-
-pub judge-spec : {M : Type 1} → statement M
-judge-spec =
-    tie.close
-    (tie.spec
-    (λ c κs. search rules)
-    (λ c κs. search rules)
-    returns
-    (λ c κs. search rules)
-    returns-2
-    (λ c κs. search rules)
-    (λ c. search rules)
-    (λ c. search rules)
-    (λ c. search rules)
-    (λ c. search rules)
-    (λ c. search rules)
-    returns-3)
+    let l = c in
+    let e = l in
+    let s = e in
+    whole (state s) s.args.basic_range (lent s) _ _ e.if-word-lt-WORDS.false e.if-kept-lt-IMAGE_BYTES.false l.load-loaded.ensures

@@ -13,8 +13,8 @@ use Rattle.reader.specs.declared.Kept.{Kept}
 use Rattle.reader.specs.declared.Reading.{Reading}
 use Rattle.reader.specs.Bytes.{held, fed}
 use Rattle.reader.specs.Calls.{refused, judged, judges, after, takes_on}
-use Rattle.reader.proofs.take_on.Statement.{statement}
-use Rattle.reader.proofs.take_on.Tie as tie
+use Rattle.reader.proofs.take_on.Goals as goal
+use Rattle.reader.proofs.take_on.Goals.{Start}
 
 -- the cases of the definition
 module _ (image : List ℕ) (reading : Reading) (piece : List ℕ) (range : ℕ) (t : Tables) where
@@ -32,7 +32,7 @@ module _ (image : List ℕ) (reading : Reading) (piece : List ℕ) (range : ℕ)
   unfolding takes_on
   taken n e l z f j = rw (le-ltb _ _ (rw e at l), ne_eqb _ 0 z, ← f, ← j) refl
 
-module _ (s : tie.Start) where
+module _ (s : Start) where
   abbrev image : List ℕ
   image = s.args.image.now
 
@@ -40,42 +40,25 @@ module _ (s : tie.Start) where
   piece = s.args.piece.now
 
   abbrev lent : Tables
-  lent = let a = s.args in tables a.offsets0.now a.offsets1.now a.alpha.now a.k_v.now a.k_ta.now
+  lent = let a = s.args in tables a.offsets0-1.now a.offsets1-1.now a.alpha-1.now a.k_v-1.now a.k_ta-1.now
 
-returns : tie.Need-returns
+pub returns-then-table-lt-PIXELS : goal.returns-then-table-lt-PIXELS
+returns-then-table-lt-PIXELS c =
+    let s = c in
+    ap (λ (a : Answer). after (image s) (lent s) (record { reading = s.args.reading; answer = a })) c.refuse-answer.ensures
+    ∙ short (image s) s.args.reading (piece s) s.args.basic_range (lent s) _ c.shortest_of-table.ensures c.if-table-lt-PIXELS.true
+
+pub returns-then-piece-eq0 : goal.returns-then-piece-eq0
+returns-then-piece-eq0 c =
+    let e = c in
+    let s = e in
+    nothing (image s) s.args.reading (piece s) s.args.basic_range (lent s) _ e.shortest_of-table.ensures e.if-table-lt-PIXELS.false c.if-piece-eq0.true
+
+pub returns : goal.returns
 returns c =
-    let s = c.before.before.before.before.before.before.before in
-    ap (λ (a : Answer). after (image s) (lent s) (record { reading = s.args.reading; answer = a })) c.refuse.ensures
-    ∙ short (image s) s.args.reading (piece s) s.args.basic-range (lent s) _ c.before.before.shortest-of.ensures c.before.if1.true
-
-returns-2 : tie.Need-returns-2
-returns-2 c =
-    let e = c.before.before in
-    let s = e.before.before.before.before.before.before in
-    nothing (image s) s.args.reading (piece s) s.args.basic-range (lent s) _ e.before.shortest-of.ensures e.if1.false c.before.if2.true
-
-returns-3 : tie.Need-returns-3
-returns-3 c =
-    let j = c.before.before.before.before.before.before.before.before in
-    let f = j.before.before.before.before.before.before.before in
-    let z = f.before.before in
-    let e = z.before in
-    let s = e.before.before.before.before.before.before in
-    taken (image s) s.args.reading (piece s) s.args.basic-range (lent s) _ e.before.shortest-of.ensures e.if1.false z.if2.false f.feed.ensures j.judge.ensures
-
-pub take-on-spec : {M : Type 1} → statement M
-take-on-spec =
-    tie.close
-    (tie.spec
-    (λ c κs. search rules)
-    (λ c κs. search rules)
-    returns
-    returns-2
-    (λ c κs. search rules)
-    (λ c κs. search rules)
-    (λ c. search rules)
-    (λ c. search rules)
-    (λ c. search rules)
-    (λ c. search rules)
-    (λ c. search rules)
-    returns-3)
+    let j = c in
+    let f = j in
+    let z = f in
+    let e = z in
+    let s = e in
+    taken (image s) s.args.reading (piece s) s.args.basic_range (lent s) _ e.shortest_of-table.ensures e.if-table-lt-PIXELS.false z.if-piece-eq0.false f.feed-kept.ensures j.judge-said.ensures
