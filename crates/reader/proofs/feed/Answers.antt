@@ -18,19 +18,19 @@ loop-i-init c = (omega arith, refl)
 pub returns-then-kept-lt-WORDS : goal.returns-then-kept-lt-WORDS
 returns-then-kept-lt-WORDS c =
     let l = c.loop-i in
-    sym (after-damage (drop l.i _) (held l.image l.auto) (lt-ltb _ card_words c.if-kept-lt-WORDS.true)) ∙ l.invariant.1
+    sym (after-damage (drop l.i _) (held l.image l.kept) (lt-ltb _ card_words c.if-kept-lt-WORDS.true)) ∙ l.invariant.1
 
 pub returns-then-kept-ge-IMAGE_BYTES : goal.returns-then-kept-ge-IMAGE_BYTES
 returns-then-kept-ge-IMAGE_BYTES c =
     let l = c.loop-i in
-    sym (past-card (drop l.i _) (held l.image l.auto) (le-ltb _ card_words c.if-kept-lt-WORDS.false) (le-leb image_bytes _ c.if-kept-ge-IMAGE_BYTES.true)) ∙ l.invariant.1
+    sym (past-card (drop l.i _) (held l.image l.kept) (le-ltb _ card_words c.if-kept-lt-WORDS.false) (le-leb image_bytes _ c.if-kept-ge-IMAGE_BYTES.true)) ∙ l.invariant.1
 
 pub loop-i-preserved : goal.loop-i-preserved
 loop-i-preserved c =
     let e = c in
     let l = e.loop-i in
     let piece = e.args.piece.now in
-    let h = held l.image l.auto in (
+    let h = held l.image l.kept in (
       search rules,
       ap (λ (h : Held). fed h (drop (l.i + 1) piece))
           (c.one-kept.ensures ∙ taken h _ (le-ltb _ card_words e.if-kept-lt-WORDS.false) (lt-leb image_bytes _ e.if-kept-ge-IMAGE_BYTES.false))
@@ -40,4 +40,4 @@ loop-i-preserved c =
 pub returns : goal.returns
 returns c =
     let l = c.loop-i in
-    sym (none_left one_more (held l.image l.auto) c.args.piece.now l.i (search rules)) ∙ l.invariant.1
+    sym (none_left one_more (held l.image l.kept) c.args.piece.now l.i (search rules)) ∙ l.invariant.1

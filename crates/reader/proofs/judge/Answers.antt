@@ -13,7 +13,6 @@ use Rattle.reader.specs.Bytes.{Held, held}
 use Rattle.reader.specs.Calls.{more, ends, refused, judged, judges}
 use Rattle.reader.proofs.Loading.{load_is}
 use Rattle.reader.proofs.judge.Goals as goal
-use Rattle.reader.proofs.judge.Goals.{Start}
 
 -- the cases of the definition
 module _ (h : Held) (range : ℕ) (t : Tables) where
@@ -30,26 +29,22 @@ module _ (h : Held) (range : ℕ) (t : Tables) where
   unfolding judges
   whole u r d l p = rw (le-ltb _ _ d, le-ltb _ _ l, (load_is p).0, (load_is p).1) refl
 
-module _ (s : Start) where
-  abbrev state : Held
-  state = held s.args.image.now s.args.kept
-
-  abbrev lent : Tables
-  lent = let a = s.args in tables a.offsets0-1.now a.offsets1-1.now a.alpha-1.now a.k_v-1.now a.k_ta-1.now
-
 pub returns-then-word-lt-WORDS : goal.returns-then-word-lt-WORDS
 returns-then-word-lt-WORDS c =
-    let s = c in
-    ap (λ (a : Answer). judged a (lent s)) c.refuse.ensures ∙ a_word (state s) s.args.basic_range (lent s) _ c.if-word-lt-WORDS.true c.word_at-bits.ensures
+    let a = c.args in
+    let lent = tables a.offsets0.now a.offsets1.now a.alpha.now a.k_v.now a.k_ta.now in
+    ap (λ (a : Answer). judged a lent) c.refuse.ensures
+    ∙ a_word (held a.image.now a.kept) a.basic_range lent _ c.if-word-lt-WORDS.true c.word_at-bits.ensures
 
 pub returns-then-kept-lt-IMAGE_BYTES : goal.returns-then-kept-lt-IMAGE_BYTES
 returns-then-kept-lt-IMAGE_BYTES c =
-    let s = c in
-    ap (λ (a : Answer). judged a (lent s)) c.want_more.ensures ∙ wanted (state s) s.args.basic_range (lent s) c.if-word-lt-WORDS.false c.if-kept-lt-IMAGE_BYTES.true
+    let a = c.args in
+    let lent = tables a.offsets0.now a.offsets1.now a.alpha.now a.k_v.now a.k_ta.now in
+    ap (λ (a : Answer). judged a lent) c.want_more.ensures
+    ∙ wanted (held a.image.now a.kept) a.basic_range lent c.if-word-lt-WORDS.false c.if-kept-lt-IMAGE_BYTES.true
 
 pub returns : goal.returns
 returns c =
-    let l = c in
-    let e = l in
-    let s = e in
-    whole (state s) s.args.basic_range (lent s) _ _ e.if-word-lt-WORDS.false e.if-kept-lt-IMAGE_BYTES.false l.load-loaded.ensures
+    let a = c.args in
+    let lent = tables a.offsets0.now a.offsets1.now a.alpha.now a.k_v.now a.k_ta.now in
+    whole (held a.image.now a.kept) a.basic_range lent _ _ c.if-word-lt-WORDS.false c.if-kept-lt-IMAGE_BYTES.false c.load-loaded.ensures

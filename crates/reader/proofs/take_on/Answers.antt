@@ -14,7 +14,6 @@ use Rattle.reader.specs.declared.Reading.{Reading}
 use Rattle.reader.specs.Bytes.{held, fed}
 use Rattle.reader.specs.Calls.{refused, judged, judges, after, takes_on}
 use Rattle.reader.proofs.take_on.Goals as goal
-use Rattle.reader.proofs.take_on.Goals.{Start}
 
 -- the cases of the definition
 module _ (image : List ℕ) (reading : Reading) (piece : List ℕ) (range : ℕ) (t : Tables) where
@@ -32,33 +31,22 @@ module _ (image : List ℕ) (reading : Reading) (piece : List ℕ) (range : ℕ)
   unfolding takes_on
   taken n e l z f j = rw (le-ltb _ _ (rw e at l), ne_eqb _ 0 z, ← f, ← j) refl
 
-module _ (s : Start) where
-  abbrev image : List ℕ
-  image = s.args.image.now
-
-  abbrev piece : List ℕ
-  piece = s.args.piece.now
-
-  abbrev lent : Tables
-  lent = let a = s.args in tables a.offsets0-1.now a.offsets1-1.now a.alpha-1.now a.k_v-1.now a.k_ta-1.now
-
 pub returns-then-table-lt-PIXELS : goal.returns-then-table-lt-PIXELS
 returns-then-table-lt-PIXELS c =
-    let s = c in
-    ap (λ (a : Answer). after (image s) (lent s) (record { reading = s.args.reading; answer = a })) c.refuse-answer.ensures
-    ∙ short (image s) s.args.reading (piece s) s.args.basic_range (lent s) _ c.shortest_of-table.ensures c.if-table-lt-PIXELS.true
+    let a = c.args in
+    let lent = tables a.offsets0.now a.offsets1.now a.alpha.now a.k_v.now a.k_ta.now in
+    ap (λ (q : Answer). after a.image.now lent (record { reading = a.reading; answer = q })) c.refuse-answer.ensures
+    ∙ short a.image.now a.reading a.piece.now a.basic_range lent _ c.shortest_of-table.ensures c.if-table-lt-PIXELS.true
 
 pub returns-then-piece-eq0 : goal.returns-then-piece-eq0
 returns-then-piece-eq0 c =
-    let e = c in
-    let s = e in
-    nothing (image s) s.args.reading (piece s) s.args.basic_range (lent s) _ e.shortest_of-table.ensures e.if-table-lt-PIXELS.false c.if-piece-eq0.true
+    let a = c.args in
+    let lent = tables a.offsets0.now a.offsets1.now a.alpha.now a.k_v.now a.k_ta.now in
+    nothing a.image.now a.reading a.piece.now a.basic_range lent _ c.shortest_of-table.ensures c.if-table-lt-PIXELS.false c.if-piece-eq0.true
 
 pub returns : goal.returns
 returns c =
-    let j = c in
-    let f = j in
-    let z = f in
-    let e = z in
-    let s = e in
-    taken (image s) s.args.reading (piece s) s.args.basic_range (lent s) _ e.shortest_of-table.ensures e.if-table-lt-PIXELS.false z.if-piece-eq0.false f.feed-kept.ensures j.judge-said.ensures
+    let a = c.args in
+    let lent = tables a.offsets0.now a.offsets1.now a.alpha.now a.k_v.now a.k_ta.now in
+    taken a.image.now a.reading a.piece.now a.basic_range lent _ c.shortest_of-table.ensures c.if-table-lt-PIXELS.false c.if-piece-eq0.false
+    c.feed-kept.ensures c.judge-said.ensures
