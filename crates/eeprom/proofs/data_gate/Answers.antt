@@ -12,8 +12,7 @@ use Rattle.offsets.specs.Offsets.{scales, offset_scale}
 use Rattle.calibration.specs.Calibration.{ranges_of}
 use Rattle.calibration.specs.Coefficients.{range_count, zero_factor}
 use Rattle.eeprom.specs.Load.{data_tests}
-use Rattle.eeprom.proofs.data_gate.Statement.{statement}
-use Rattle.eeprom.proofs.data_gate.Tie as tie
+use Rattle.eeprom.proofs.data_gate.Goals as goal
 
 -- the tests, line by line
 module _ (w : ℕ → ℕ) (range : ℕ) where
@@ -35,31 +34,21 @@ module _ (w : ℕ → ℕ) (range : ℕ) where
       unfolding data_tests first_of
       none h = simp (lt-leb _ _ s, lt-leb _ _ i, le-ltb _ _ h)
 
--- what the tests passed so far imply
-small : (c : tie.Else1) → offset_scale (at c.before.before.args.words.now) < scales
-small c = let e = c.before.offset_scale.ensures in omega arith
+pub returns-then-scale-ge-SCALES : goal.returns-then-scale-ge-SCALES
+returns-then-scale-ge-SCALES c = let a = c.args in large-scale (at a.words.now) a.basic_range _ c.offset_scale-scale.ensures (omega arith)
 
-inside : (c : tie.Else2) → c.before.before.before.args.basic-range < range_count
-inside c = omega arith
+pub returns-then-basic_range-ge-RANGES : goal.returns-then-basic_range-ge-RANGES
+returns-then-basic_range-ge-RANGES c = let a = c.args in no-range (at a.words.now) a.basic_range (let e = c.offset_scale-scale.ensures in omega arith) (omega arith)
 
-returns : tie.Need-returns
-returns c = let a = c.before.before.args in large-scale (at a.words.now) a.basic-range _ c.before.offset_scale.ensures (omega arith)
+pub returns-then-range-lt-RANGES : goal.returns-then-range-lt-RANGES
+returns-then-range-lt-RANGES c =
+    let i = c in
+    let a = i.args in
+    zero (at a.words.now) a.basic_range (let e = i.offset_scale-scale.ensures in omega arith) (omega arith) _ c.zero_factor-range.ensures (omega arith)
 
-returns-2 : tie.Need-returns-2
-returns-2 c = let a = c.before.before.before.args in no-range (at a.words.now) a.basic-range (small c.before) (omega arith)
-
-returns-3 : tie.Need-returns-3
-returns-3 c =
-    let i = c.before.before in
-    let a = i.before.before.before.args in
-    zero (at a.words.now) a.basic-range (small i.before) (inside i) _ c.before.zero-factor.ensures (omega arith)
-
-returns-4 : tie.Need-returns-4
-returns-4 c =
-    let i = c.before.before in
-    let a = i.before.before.before.args in
-    let e = c.before.zero-factor.ensures in
-    none (at a.words.now) a.basic-range (small i.before) (inside i) (omega arith)
-
-pub data-gate-spec : {M : Type 1} → statement M
-data-gate-spec = tie.close (tie.spec (λ c κs. search rules) returns returns-2 (λ c κs. search rules) returns-3 returns-4)
+pub returns : goal.returns
+returns c =
+    let i = c in
+    let a = i.args in
+    let e = c.zero_factor-range.ensures in
+    none (at a.words.now) a.basic_range (let e = i.offset_scale-scale.ensures in omega arith) (omega arith) (omega arith)
