@@ -1,10 +1,8 @@
 -- `frames::from_infrared` meets its contract: the gate's verdict is returned, or else the temperatures are computed from the destination. Assumes nothing.
-use borrow.Author.Rules.{rules}
 use Prim.Native.Nat.{ℕ}
 use mathlib.Core.Path.{◌≡◌, sym, ap, ◌∙◌}
-use mathlib.Core.List.{List, []}
+use mathlib.Core.List.{List}
 use native.Mathlib.Omega.{arith}
-use lib.IntN.{ℤ}
 use lib.Ieee.{Float}
 use Rattle.refusal.specs.Order.{first_of}
 use Rattle.refusal.specs.declared.Verdict.{Verdict}
@@ -15,7 +13,7 @@ use Rattle.pixels.specs.Pixels.{held, answer_bits}
 use Rattle.pixels.specs.Inner.{lifted_at}
 use Rattle.frames.specs.Frames.{ToCall, to_verdict, to_lengths}
 use Rattle.frames.specs.Inner.{any_to, ranges_of}
-use Rattle.frames.proofs.Opened.{Open, temperature-opened}
+use Rattle.frames.proofs.Opened.{temperature-opened}
 use Rattle.frames.proofs.Calls.{refused, done, same_bits}
 use Rattle.frames.proofs.ByWanted.{final-is}
 use Rattle.frames.proofs.from_infrared.Goals as goal

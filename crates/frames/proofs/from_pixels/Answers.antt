@@ -1,16 +1,12 @@
 -- `frames::from_pixels` meets its contract: the gate's verdict is returned, or else the pixels are computed with the frame's own numbers. Assumes nothing.
-use borrow.Author.Rules.{rules}
-use Prim.Native.Nat.{ℕ}
 use mathlib.Core.Path.{◌≡◌, sym, ap, ◌∙◌}
-use mathlib.Core.List.{List}
 use native.Mathlib.Omega.{arith}
-use lib.Ieee.{Float, binary32, to_bits}
-use Rattle.refusal.specs.declared.Verdict.TheVariants.{Pass}
+use lib.Ieee.{binary32, to_bits}
 use Rattle.formulas.specs.declared.CommonIrData.{CommonIrData}
 use Rattle.formulas.specs.Frame.{common_of}
 use Rattle.pixels.proofs.Blocks.{workable}
 use Rattle.frames.specs.Frames.{IrCall, PassCall, common}
-use Rattle.frames.specs.Inner.{any_ir, ranges_of, any_pass, verdict_of, made_bits}
+use Rattle.frames.specs.Inner.{any_ir, ranges_of, any_pass, made_bits}
 use Rattle.frames.proofs.Calls.{refused, done, same_bits}
 use Rattle.frames.proofs.ByWanted as by
 use Rattle.frames.proofs.from_pixels.Goals as goal

@@ -1,7 +1,4 @@
 -- `frames::gate` meets its contract, for each case of what is wanted. Assumes nothing.
-use borrow.Author.Rules.{rules}
-use mathlib.Core.Path.{◌≡◌, ◌∙◌}
-use native.Mathlib.Omega.{arith}
 use Rattle.refusal.proofs.Order.{in-turn}
 use Rattle.frames.proofs.gate.Goals as goal
 
