@@ -12,7 +12,10 @@ use std::{env, io};
 fn main() {
     let here = PathBuf::from(variable("CARGO_MANIFEST_DIR"));
     let repository = here.join("../..");
-    for watched in [here.join("dist"), repository.join("crates"), repository.join("crates.txt"), repository.join("tools")] {
+    // Not crates/ itself: rt keeps its work in crates/NAME/out/.
+    let crates = fs::read_dir(repository.join("crates")).into_iter().flatten().flatten().map(|entry| entry.path());
+    let parts = crates.flat_map(|path| ["proofs", "specs", "src"].map(|part| path.join(part)));
+    for watched in [here.join("dist"), repository.join("crates.txt"), repository.join("tools")].into_iter().chain(parts) {
         if watched.exists() {
             println!("cargo:rerun-if-changed={}", watched.display());
         }

@@ -4,10 +4,10 @@
 
 mod burning;
 mod filtering;
-mod lists;
 mod loads;
 mod other;
 mod pieces;
+mod word_lists;
 mod words;
 
 pub fn agreed(kind: u16, input: &[u8], answer: &[u8]) -> usize {
@@ -17,9 +17,9 @@ pub fn agreed(kind: u16, input: &[u8], answer: &[u8]) -> usize {
         stream::LOAD => loads::load(input, answer),
         stream::ROW => loads::row(input, answer),
         stream::SUBPAGE => loads::subpage(input, answer),
-        stream::READ_WORDS => lists::read_words(input, answer),
-        stream::WRITE => lists::write(input, answer),
-        stream::SCRUB => lists::scrub(input, answer),
+        stream::READ_WORDS => word_lists::read_words(input, answer),
+        stream::WRITE => word_lists::write(input, answer),
+        stream::SCRUB => word_lists::scrub(input, answer),
         stream::BURN => burning::burn(input, answer),
         stream::PIECES => pieces::pieces(input, answer),
         stream::FILTER => filtering::filter(input, answer),

@@ -1,11 +1,11 @@
 -- A call from pixels, by what is wanted: its verdict, what follows if it passes, and the bits that its pixels are written as. Assumes nothing.
 use Prim.Native.Nat.{ℕ, ◌*◌, ◌<◌, ◌≤◌}
-use mathlib.Core.Path.{◌≡◌, refl, sym, ap, ap₂, ◌∙◌}
+use mathlib.Core.Path.{◌≡◌, refl, ap, ◌∙◌}
 use mathlib.Core.List.{List}
 use native.Mathlib.Omega.{arith}
 use lib.IntN.{ℤ}
 use lib.ListN.{get_or, length}
-use lib.Ieee.{Float, nan, binary32, to_bits}
+use lib.Ieee.{Float, nan}
 use Rattle.refusal.specs.declared.Verdict.TheVariants.{Pass}
 use Rattle.refusal.specs.Order.{first_of}
 use Rattle.root.specs.Root.{celsius}
@@ -14,7 +14,6 @@ use Rattle.ranges.specs.Corners.{range_of}
 use Rattle.formulas.specs.declared.CommonIrData.{CommonIrData}
 use Rattle.formulas.specs.declared.CommonToData.{CommonToData}
 use Rattle.formulas.specs.declared.Deduction.{Deduction}
-use Rattle.formulas.specs.Frame.{common_of}
 use Rattle.formulas.specs.Pixel.{ranged_of, answer_of}
 use Rattle.formulas.specs.Inner.{compensation_of, common_to_of, lifted_final}
 use Rattle.formulas.proofs.Lifted as lifted
@@ -28,7 +27,7 @@ use Rattle.frames.specs.declared.Wanted.TheVariants.{Infrared, Temperature, Rang
 use Rattle.frames.specs.Frames.{IrCall, PassCall, ToCall, common, infrared_at, sensitivity_at, final_at, onward, ir_lengths, ir_verdict, pass_verdict}
 use Rattle.frames.specs.Ranged.{range_at, ranged_at, ranged_verdict}
 use Rattle.frames.specs.Inner.{any_ir, ranges_of, any_pass, tests_of, verdict_of, made_bits, InRange, goal_by}
-use Rattle.frames.proofs.Opened.{Long, Open, infrared-opened, one-pass-opened, ranged-opened}
+use Rattle.frames.proofs.Opened.{Long, infrared-opened, one-pass-opened, ranged-opened}
 
 -- ---- infrared to temperature, over the values that the code computes once for all pixels
 

@@ -8,7 +8,6 @@ use lib.Ieee.{Float, binary32, fits, to_bits}
 use Rattle.refusal.specs.Refusal.{unless}
 use Rattle.refusal.specs.declared.Refusal.{Refusal}
 use Rattle.refusal.specs.declared.Verdict.{Verdict}
-use Rattle.refusal.specs.declared.Verdict.TheVariants as Verdict
 use Rattle.formulas.specs.Pixel.{answer_of}
 use Rattle.formulas.proofs.Lifted as lifted
 use Rattle.pixels.specs.Pixels.{touched, answer_bits, into, lost_of}

@@ -1,16 +1,16 @@
 -- A pixel is lost exactly if its value is NaN: proves specs/Lost. Assumes nothing.
 use Prim.Native.Nat.{ℕ, ◌<◌, ◌≤◌}
-use mathlib.Core.Path.{◌≡◌, refl, sym, ap, ◌∙◌}
+use mathlib.Core.Path.{◌≡◌, refl, ap, ◌∙◌}
 use mathlib.Core.Bool.{Bool, true, false}
 use mathlib.Core.List.{List}
 use lib.Dec.{T, eqb}
 use lib.ListN.{get_or, length}
-use lib.Ieee.{Float, nan, inf, fin, binary32, fits, to_bits, is_nan, add, sub, mul, div}
+use lib.Ieee.{Float, nan, inf, fin, binary32, fits, is_nan, add, sub, mul, div}
 use borrow.Author.Tests.{eq-eqb, eqb-true}
 use Rattle.lists.specs.Pick.{pick}
 use Rattle.lists.proofs.Written.{written_at}
 use Rattle.floats.specs.Floats.{◌⊕◌, ◌⊖◌, ◌⊗◌, ◌⊘◌}
-use Rattle.floats.specs.Constants.{pattern, freezing}
+use Rattle.floats.specs.Constants.{pattern}
 use Rattle.floats.proofs.Nan.{pattern-tells}
 use Rattle.root.specs.Root.{root, celsius}
 use Rattle.refusal.specs.Refusal.{unless}
@@ -18,8 +18,8 @@ use Rattle.refusal.specs.declared.Verdict.{Verdict}
 use Rattle.refusal.specs.declared.Verdict.TheVariants.{Pass}
 use Rattle.formulas.specs.declared.Pixel.TheVariants.{Temperature, Lost}
 use Rattle.formulas.specs.declared.Range.{Range}
-use Rattle.formulas.specs.Pixel.{ranged_of, decided}
-use Rattle.pixels.specs.Pixels.{touched, held, infrared_bits, answer_bits, temperature_bits, into}
+use Rattle.formulas.specs.Pixel.{ranged_of}
+use Rattle.pixels.specs.Pixels.{touched, held, answer_bits, temperature_bits, into}
 use Rattle.pixels.proofs.Lost.{celsius-fits}
 use Rattle.frames.specs.declared.Frame.{Frame}
 use Rattle.frames.specs.Frames.{IrCall, ToCall, PassCall, Writes, Infrareds, Temperatures, Passes, infrared_at, final_at, onward, ir_verdict, to_verdict, pass_verdict}

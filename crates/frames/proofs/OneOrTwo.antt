@@ -19,7 +19,6 @@ use Rattle.refusal.specs.Order.{◌refuses◌, first_of}
 use Rattle.refusal.specs.declared.Refusal.{Refusal}
 use Rattle.refusal.specs.declared.Refusal.TheVariants.{ShortTable, ShortFrame, BasicRange, SupplyRange, ZeroDivisor}
 use Rattle.refusal.specs.declared.Verdict.{Verdict}
-use Rattle.refusal.specs.declared.Verdict.TheVariants as Verdict
 use Rattle.formulas.specs.Frame.{common_of, ambient_of}
 use Rattle.gates.specs.Gate.{supply_outside, zero_divisor, bad_emissivity, length_tests, range_tests, reading_tests, emissivity_tests, temperature_tests}
 use Rattle.pixels.specs.Pixels.{touched, infrared_bits, temperature_bits, into, lost_of}

@@ -5,7 +5,6 @@ use mathlib.Core.List.{List, ◌++◌}
 use lib.IntN.{ℤ}
 use lib.Ieee.{Float}
 use borrow.Author.Tests.{ltb-false, leb-false}
-use Rattle.refusal.specs.declared.Refusal.{Refusal}
 use Rattle.refusal.specs.declared.Verdict.{Verdict}
 use Rattle.refusal.specs.declared.Verdict.TheVariants.{Pass, Refused}
 use Rattle.refusal.specs.Refusal.{unless}

@@ -6,7 +6,6 @@ use Rattle.floats.specs.Floats.{real}
 use Rattle.refusal.specs.Refusal.{unless}
 use Rattle.refusal.specs.Order.{first_of}
 use Rattle.refusal.specs.declared.Verdict.{Verdict}
-use Rattle.refusal.specs.declared.Verdict.TheVariants as Verdict
 use Rattle.filter.specs.declared.Steadied.{Steadied}
 use Rattle.filter.specs.declared.Steadied.TheVariants.{NotYet, Average}
 use Rattle.formulas.specs.declared.CommonIrData.{CommonIrData}

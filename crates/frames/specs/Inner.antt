@@ -1,5 +1,5 @@
 -- For inner functions only: the records of Frames built from the caller's slices, and what a call does, by what is wanted. Assumes nothing.
-use Rattle.std.specs.Prelude.{ℕ, min, ◌*◌, ◌<◌, ◌≤◌, true, List, ◌++◌, T, ℤ, pos, get_or, length, Float}
+use Rattle.std.specs.Prelude.{ℕ, min, ◌*◌, ◌<◌, true, List, ◌++◌, T, ℤ, pos, get_or, Float}
 use Rattle.std.specs.Float.{nan}
 use Rattle.floats.specs.Floats.{real}
 use Rattle.refusal.specs.declared.Verdict.{Verdict}
@@ -12,7 +12,6 @@ use Rattle.formulas.specs.declared.Settings.{Settings}
 use Rattle.gates.specs.declared.Lengths.{Lengths}
 use Rattle.gates.specs.Gate.{infrared_tests, one_pass_tests}
 use Rattle.pixels.specs.declared.Goal.{Goal}
-use Rattle.pixels.specs.declared.Goal.TheVariants as Goal
 use Rattle.pixels.specs.Pixels.{infrared_bits, temperature_bits}
 use Rattle.pixels.specs.Inner.{in_turn}
 use Rattle.frames.specs.declared.Call.{Call}

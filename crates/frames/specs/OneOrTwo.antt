@@ -7,7 +7,6 @@ use Rattle.lists.specs.First.{first_from}
 use Rattle.refusal.specs.declared.Refusal.{Refusal}
 use Rattle.refusal.specs.Refusal.{told_of}
 use Rattle.refusal.specs.declared.Verdict.{Verdict}
-use Rattle.refusal.specs.declared.Verdict.TheVariants as Verdict
 use Rattle.pixels.specs.Pixels.{infrared_bits, into}
 use Rattle.frames.specs.declared.Frame.{Frame}
 use Rattle.frames.specs.declared.Frame.TheVariants.{Done}

@@ -1,6 +1,6 @@
 -- Document 01: pixel offset = average + raw × 2^scale. `w` gives the data of a word by its number; `word_of` is the map's.
 -- Assumes nothing.
-use Rattle.std.specs.Prelude.{ℕ, ◌+◌, ◌-◌, ◌*◌, ◌/◌, ◌^◌, ltb, ℤ, pos, ◌+ℤ◌, ◌*ℤ◌}
+use Rattle.std.specs.Prelude.{ℕ, ◌-◌, ◌*◌, ◌/◌, ◌^◌, ltb, ℤ, pos, ◌+ℤ◌, ◌*ℤ◌}
 use Rattle.lists.specs.Pick.{pick}
 use Rattle.util.specs.Fields.{signed, combined}
 use Rattle.map.specs.declared.Field.TheVariants.{OffsetScale, OffsetAverage, Offset0, Offset1}

@@ -6,7 +6,7 @@ use Prim.Native.Nat.{ℕ, suc, ◌+◌, ◌-◌, ◌*◌, ◌/◌, ◌%◌, ◌^
 use native.Mathlib.Nat.{mul_assoc, mul_comm, mul_right_comm, mul-one, mul-pos, add-mul, mul-lt-mul_of_pos_right, div-add-mod', lt_of_le_of_lt, mod-lt}
 use native.Mathlib.Omega.{arith}
 use lib.Bits.{bit_and, and_mask}
-use lib.Dec.{T, ltb, lit<, le→leb, lt→ltb}
+use lib.Dec.{T, lit<, le→leb, lt→ltb}
 use borrow.Author.Tests.{le-ltb, lt-ltb}
 use lib.Pow.{shl_lt}
 use lib.IntN.{ℤ, pos, negsuc}

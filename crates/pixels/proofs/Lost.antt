@@ -3,7 +3,7 @@ use Prim.Native.Nat.{ℕ}
 use native.Mathlib.Omega.{arith}
 use mathlib.Core.Path.{◌≡◌, refl, sym, ap, ◌∙◌}
 use mathlib.Core.Bool.{Bool, true, false}
-use lib.Dec.{T, eqb}
+use lib.Dec.{T}
 use lib.Ieee.{Float, binary32, fits, to_bits, is_nan}
 use borrow.Author.Tests.{eq-eqb}
 use lib.Ieee.Fits.{sub-fits}
@@ -13,7 +13,6 @@ use Rattle.floats.proofs.Nan.{pattern-tells}
 use Rattle.root.specs.Root.{root, celsius}
 use Rattle.formulas.specs.declared.Pixel.TheVariants.{Temperature, Lost}
 use Rattle.formulas.specs.Pixel.{decided}
-use Rattle.pixels.specs.Pixels.{answer_bits}
 use Rattle.pixels.specs.Blocks.{lost_flag}
 
 pub celsius-fits : (x : Float) → T (fits binary32 (celsius x))

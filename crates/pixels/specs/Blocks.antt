@@ -1,5 +1,5 @@
 -- For inner functions only: pixels in blocks of 32. Assumes nothing.
-use Rattle.std.specs.Prelude.{ℕ, ◌+◌, ◌≤◌, ◌<◌, ◌≡◌, true, false, List, eqb, get_or, length, Float}
+use Rattle.std.specs.Prelude.{ℕ, ◌+◌, ◌≤◌, ◌<◌, ◌≡◌, true, false, List, eqb, length, Float}
 use Rattle.lists.specs.Pick.{pick}
 use Rattle.lists.specs.Each.{Each}
 use Rattle.floats.specs.Constants.{pattern}

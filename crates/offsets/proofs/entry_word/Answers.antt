@@ -1,5 +1,4 @@
 -- `offsets::entry_word` meets its contract, for each subpage. Assumes nothing.
-use borrow.Author.Rules.{rules}
 use borrow.Author.Tests.{lt-ltb, le-ltb}
 use mathlib.Core.Path.{sym}
 use Prim.Native.Nat.{◌-◌}

@@ -1,14 +1,13 @@
 -- `offsets::fill_offsets` meets its contract: it fills entry after entry. Assumes nothing.
-use borrow.Author.Rules.{rules, sfits_of}
+use borrow.Author.Rules.{sfits_of}
 use mathlib.Core.Path.{sym, ◌∙◌, subst}
-use Prim.Native.Nat.{ℕ, ◌+◌, ◌-◌, ◌<◌}
+use Prim.Native.Nat.{ℕ, ◌<◌}
 use native.Mathlib.Omega.{arith}
 use mir.Syntax.{w32}
 use mir.Facts.{to_z-of_z}
 use Rattle.lists.proofs.Fill as fill
 use Rattle.lists.proofs.Fill.{Filling}
-use Rattle.card.specs.Inner.{at}
-use Rattle.offsets.specs.Offsets.{scales, offset_at}
+use Rattle.offsets.specs.Offsets.{scales}
 use Rattle.offsets.proofs.Range.{scale-is}
 use Rattle.offsets.proofs.fill_offsets.Goals as goal
 
@@ -21,7 +20,6 @@ loop-i-preserved c =
 
 pub returns : goal.returns
 returns c = fill.done _ c.loop-i.invariant c.loop-i-test.false
-
 
 pub offset_at-requires : goal.offset_at-requires
 offset_at-requires c =

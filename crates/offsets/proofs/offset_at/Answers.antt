@@ -1,5 +1,4 @@
 -- `offsets::offset_at` meets its contract: it adds the average and the product. Assumes nothing.
-use borrow.Author.Rules.{rules}
 use mathlib.Core.Path.{ap₂, ◌∙◌}
 use lib.IntN.{ℤ, ◌+ℤ◌}
 use mir.Facts.{to_z-of_z}

@@ -1,5 +1,4 @@
 -- `offsets::offset_average` meets its contract, which follows from its callees' contracts. Assumes nothing.
-use borrow.Author.Rules.{rules}
 use mathlib.Core.Path.{ap, ◌∙◌}
 use mir.Syntax.{w16}
 use mir.ValLaws.{to_z-of_z}

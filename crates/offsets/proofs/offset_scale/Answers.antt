@@ -1,5 +1,4 @@
 -- `offsets::offset_scale` meets its contract: it returns the scale of the basis. Assumes nothing.
-use borrow.Author.Rules.{rules}
 use Rattle.offsets.proofs.Range.{scale-is}
 use Rattle.offsets.proofs.offset_scale.Goals as goal
 

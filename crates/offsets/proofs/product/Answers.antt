@@ -1,5 +1,5 @@
 -- `offsets::product` meets its contract: a signed number of 11 bits times at most 2 ^ 20 fits an i32. Assumes nothing.
-use borrow.Author.Rules.{rules, sfits_of}
+use borrow.Author.Rules.{sfits_of}
 use mathlib.Core.Path.{◌≡◌, ap, ◌∙◌}
 use Prim.Native.Nat.{ℕ, ◌*◌, ◌%◌, ◌^◌, ◌<◌}
 use native.Mathlib.Omega.{arith}
@@ -31,8 +31,12 @@ product raw scale h = omega (arith, product-mag raw scale h)
 pub overflow_mul-result : goal.overflow_mul-result
 overflow_mul-result c =
     let a = c.args in
-    rw ((ap (λ (z : ℤ). to_z w16 (of_z w16 z)) (c.i16_from_bits-raw.ensures ∙ ap (signed 11) c.wide.ensures)
-    ∙ signed_back 11 c.args.raw (lit≤ tt) (lit≤ tt)), back32 (signed 11 a.raw) (omega (arith, small a.raw)), power a.scale c.requires)
+    rw (
+      (ap (λ (z : ℤ). to_z w16 (of_z w16 z)) (c.i16_from_bits-raw.ensures ∙ ap (signed 11) c.wide.ensures)
+          ∙ signed_back 11 c.args.raw (lit≤ tt) (lit≤ tt)),
+      back32 (signed 11 a.raw) (omega (arith, small a.raw)),
+      power a.scale c.requires,
+    )
     (sfits_of (product a.raw a.scale c.requires))
 
 pub returns : goal.returns
@@ -41,7 +45,7 @@ returns c =
     let a = c.args in
     rw (
       (ap (λ (z : ℤ). to_z w16 (of_z w16 z)) (c.i16_from_bits-raw.ensures ∙ ap (signed 11) c.wide.ensures)
-    ∙ signed_back 11 c.args.raw (lit≤ tt) (lit≤ tt)),
+          ∙ signed_back 11 c.args.raw (lit≤ tt) (lit≤ tt)),
       back32 (signed 11 a.raw) (omega (arith, small a.raw)),
       power a.scale c.requires,
       back32 (signed 11 a.raw *ℤ pos (2 ^ a.scale)) (product a.raw a.scale c.requires),

@@ -1,5 +1,4 @@
 -- `offsets::product_at` meets its contract: it scales the word of the entry. Assumes nothing.
-use borrow.Author.Rules.{rules}
 use mathlib.Core.Path.{◌≡◌, sym, ◌∙◌, subst}
 use Prim.Native.Nat.{◌≤◌}
 use lib.IntN.{ℤ}

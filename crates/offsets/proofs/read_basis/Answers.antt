@@ -1,7 +1,5 @@
 -- `offsets::read_basis` meets its contract: the cursor is at words 16, 17 and 18 in turn. Assumes nothing.
-use borrow.Author.Rules.{rules}
 use mathlib.Core.Path.{◌≡◌, ap, ◌∙◌}
-use lib.Dec.{lit<}
 use mir.Syntax.{w16}
 use mir.ValLaws.{to_z-of_z}
 use Rattle.map.proofs.Words.{places}

@@ -1,14 +1,10 @@
 -- `pixels::answer_bits` meets its contract: each pixel has a temperature, or the pattern and a flag. Assumes nothing.
 use borrow.Author.Rules.{rules}
-use Prim.Native.Nat.{ℕ, ◌-◌}
-use mathlib.Core.Path.{◌≡◌, refl, sym, ap, ◌∙◌}
-use Rattle.lists.proofs.Each.{Entering, begun, entered, all-entered}
-use Rattle.roots.specs.Many.{side}
+use mathlib.Core.Path.{sym, ap, ◌∙◌}
+use Rattle.lists.proofs.Each.{begun, entered, all-entered}
 use Rattle.pixels.specs.Pixels.{answer_bits}
 use Rattle.formulas.specs.declared.Pixel.{Pixel}
-use Rattle.formulas.specs.Pixel.{decided}
-use Rattle.pixels.specs.Inner.{v, answers_from}
-use Rattle.pixels.specs.Blocks.{IsNat, lost_flag}
+use Rattle.pixels.specs.Blocks.{lost_flag}
 use Rattle.pixels.proofs.Lost.{lost-flag, told-flag}
 use Rattle.pixels.proofs.answer_bits.Goals as goal
 

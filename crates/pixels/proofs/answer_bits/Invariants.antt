@@ -1,14 +1,8 @@
-use borrow.Author.Rules.{rules}
 use Prim.Native.Nat.{ℕ, ◌-◌}
-use mathlib.Core.Path.{◌≡◌, refl, sym, ap, ◌∙◌}
-use Rattle.lists.proofs.Each.{Entering, begun, entered, all-entered}
+use Rattle.lists.proofs.Each.{Entering}
 use Rattle.roots.specs.Many.{side}
-use Rattle.pixels.specs.Pixels.{answer_bits}
-use Rattle.formulas.specs.declared.Pixel.{Pixel}
-use Rattle.formulas.specs.Pixel.{decided}
-use Rattle.pixels.specs.Inner.{v, answers_from}
+use Rattle.pixels.specs.Inner.{answers_from}
 use Rattle.pixels.specs.Blocks.{IsNat, lost_flag}
-use Rattle.pixels.proofs.Lost.{lost-flag, told-flag}
 use Rattle.pixels.proofs.answer_bits.Given as goal
 
 abbrev pub invariant-loop-i : goal.invariant-loop-i

@@ -1,16 +1,14 @@
 -- `pixels::any_masked` meets its contract: an OR of mask bytes is 0 only if every byte is 0. Assumes nothing.
-use borrow.Author.Rules.{rules}
 use borrow.Author.Tests.{eq-eqb, eqb-true}
 use mathlib.Core.Path.{◌≡◌, refl, ap}
 use mathlib.Core.Bool.{Bool, true, false, not, true≢false}
-use Prim.Native.Nat.{ℕ, ◌+◌, ◌-◌, ◌≤◌}
+use Prim.Native.Nat.{ℕ, ◌+◌}
 use native.Mathlib.Omega.{arith}
 use lib.Dec.{eqb}
 use lib.ListN.{get_or}
 use Rattle.util.proofs.Or.{left-none, right-none}
 use Rattle.roots.specs.Many.{side}
 use Rattle.pixels.specs.Pixels.{touched}
-use Rattle.pixels.specs.Blocks.{Unasked}
 use Rattle.pixels.proofs.Blocks.{none-asked, nor-this}
 use Rattle.pixels.proofs.any_masked.Goals as goal
 

@@ -1,10 +1,6 @@
 -- `pixels::bits_block` meets its contract, for each goal. Assumes nothing.
 use borrow.Author.Rules.{rules}
-use Prim.Native.Nat.{ℕ}
-use mathlib.Core.Path.{◌≡◌}
-use lib.Ieee.{Float}
 use native.Mathlib.Omega.{arith}
-use Rattle.pixels.specs.Inner.{Table, table, v}
 use Rattle.pixels.proofs.Blocks.{same_flags, as-infrared, as-temperature, as-ranged, workable}
 use Rattle.pixels.proofs.bits_block.Goals as goal
 

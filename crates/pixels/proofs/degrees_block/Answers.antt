@@ -1,19 +1,16 @@
 -- `pixels::degrees_block` meets its contract: the fourth roots, and then the degrees of each in place. Assumes nothing.
 use borrow.Author.Rules.{rules}
-use Prim.Native.Nat.{ℕ, ◌-◌, ◌≤◌, ◌<◌}
-use mathlib.Core.Path.{◌≡◌, ap, ◌∙◌}
+use Prim.Native.Nat.{◌<◌}
+use mathlib.Core.Path.{ap, ◌∙◌}
 use native.Mathlib.Nat.{le_refl}
 use native.Mathlib.Omega.{arith}
-use lib.ListN.{get_or}
 use lib.Seq.{get_or-set_other}
 use lib.Ieee.{Float, nan}
-use Rattle.lists.proofs.Each.{Entering, begun, entered, all-entered}
+use Rattle.lists.proofs.Each.{begun, entered, all-entered}
 use Rattle.floats.specs.Floats.{◌⊖◌}
 use Rattle.floats.specs.Constants.{freezing}
 use Rattle.root.specs.Root.{celsius}
-use Rattle.roots.specs.Many.{side, IsRoot}
-use Rattle.pixels.specs.Inner.{celsius_at}
-use Rattle.pixels.specs.Blocks.{is}
+use Rattle.roots.specs.Many.{side}
 use Rattle.pixels.proofs.degrees_block.Goals as goal
 
 pub loop-i-init : goal.loop-i-init

@@ -1,15 +1,7 @@
-use borrow.Author.Rules.{rules}
 use Prim.Native.Nat.{ℕ, ◌-◌, ◌≤◌, ◌<◌}
-use mathlib.Core.Path.{◌≡◌, ap, ◌∙◌}
-use native.Mathlib.Nat.{le_refl}
-use native.Mathlib.Omega.{arith}
 use lib.ListN.{get_or}
-use lib.Seq.{get_or-set_other}
-use lib.Ieee.{Float, nan}
-use Rattle.lists.proofs.Each.{Entering, begun, entered, all-entered}
-use Rattle.floats.specs.Floats.{◌⊖◌}
-use Rattle.floats.specs.Constants.{freezing}
-use Rattle.root.specs.Root.{celsius}
+use lib.Ieee.{nan}
+use Rattle.lists.proofs.Each.{Entering}
 use Rattle.roots.specs.Many.{side, IsRoot}
 use Rattle.pixels.specs.Inner.{celsius_at}
 use Rattle.pixels.specs.Blocks.{is}

@@ -1,13 +1,10 @@
 -- `pixels::final_values` meets its contract: entry by entry. Assumes nothing.
 use borrow.Author.Rules.{rules}
-use Prim.Native.Nat.{ℕ, ◌+◌, ◌-◌}
-use mathlib.Core.Path.{◌≡◌, ap, ◌∙◌}
-use lib.Ieee.{Float, nan}
-use Rattle.lists.proofs.Each.{Entering, begun, entered, all-entered}
-use Rattle.roots.specs.Many.{side}
+use mathlib.Core.Path.{ap, ◌∙◌}
+use lib.Ieee.{Float}
+use Rattle.lists.proofs.Each.{begun, entered, all-entered}
 use Rattle.formulas.specs.Inner.{lifted_from}
 use Rattle.pixels.specs.Inner.{rooted_at, v}
-use Rattle.pixels.specs.Blocks.{is}
 use Rattle.pixels.proofs.final_values.Goals as goal
 
 pub loop-i-init : goal.loop-i-init

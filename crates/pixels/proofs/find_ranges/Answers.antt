@@ -1,19 +1,15 @@
 -- `pixels::find_ranges` meets its contract: each entry is the last range so far that its temperature reaches. Assumes nothing.
 use borrow.Author.Rules.{rules}
-use Prim.Native.Nat.{ℕ, ◌-◌, ◌≤◌, ◌<◌}
+use Prim.Native.Nat.{ℕ}
 use mathlib.Core.Path.{◌≡◌, refl, ap, ◌∙◌}
 use native.Mathlib.Omega.{arith}
-use lib.ListN.{length}
 use mir.Facts.{to_z-of_z}
 use mir.Syntax.{w16}
 use mir.Val.{to_z, of_z}
-use Rattle.lists.specs.Each.{Each}
 use Rattle.lists.specs.Last.{last_below}
 use Rattle.floats.specs.Floats.{real}
-use Rattle.roots.specs.Many.{side}
 use Rattle.ranges.specs.Corners.{corner_at, reaches}
 use Rattle.pixels.specs.Inner.{v}
-use Rattle.pixels.specs.Blocks.{IsNat}
 use Rattle.pixels.proofs.Temperatures.{next-range, none-looked, all-looked}
 use Rattle.pixels.proofs.find_ranges.Goals as goal
 

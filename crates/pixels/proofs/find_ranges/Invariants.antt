@@ -1,19 +1,12 @@
-use borrow.Author.Rules.{rules}
-use Prim.Native.Nat.{ℕ, ◌-◌, ◌≤◌, ◌<◌}
-use mathlib.Core.Path.{◌≡◌, refl, ap, ◌∙◌}
-use native.Mathlib.Omega.{arith}
+use Prim.Native.Nat.{ℕ, ◌-◌, ◌≤◌}
+use mathlib.Core.Path.{◌≡◌}
 use lib.ListN.{length}
-use mir.Facts.{to_z-of_z}
-use mir.Syntax.{w16}
-use mir.Val.{to_z, of_z}
 use Rattle.lists.specs.Each.{Each}
 use Rattle.lists.specs.Last.{last_below}
-use Rattle.floats.specs.Floats.{real}
 use Rattle.roots.specs.Many.{side}
-use Rattle.ranges.specs.Corners.{corner_at, reaches}
+use Rattle.ranges.specs.Corners.{reaches}
 use Rattle.pixels.specs.Inner.{v}
 use Rattle.pixels.specs.Blocks.{IsNat}
-use Rattle.pixels.proofs.Temperatures.{next-range, none-looked, all-looked}
 use Rattle.pixels.proofs.find_ranges.Given as goal
 
 abbrev pub invariant-loop-range : goal.invariant-loop-range

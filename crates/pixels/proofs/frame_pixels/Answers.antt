@@ -1,12 +1,11 @@
 -- `pixels::frame_pixels` meets its contract: block by block; those that the mask does not ask for are passed. Assumes nothing.
 use borrow.Author.Rules.{rules}
-use Prim.Native.Nat.{ℕ, ◌+◌, ◌*◌, ◌-◌, ◌≤◌}
+use Prim.Native.Nat.{◌+◌, ◌*◌}
 use mathlib.Core.Path.{◌≡◌}
 use native.Mathlib.Omega.{arith}
-use borrow.Author.Tests.{not-true}
 use Rattle.roots.specs.Many.{side}
-use Rattle.pixels.specs.Inner.{Lent, lent, Table, table, frame_bits}
-use Rattle.pixels.proofs.Blocks.{Upto, none_yet, with-block, with_none, block-agrees, flags_of, fewer}
+use Rattle.pixels.specs.Inner.{lent, table}
+use Rattle.pixels.proofs.Blocks.{none_yet, with-block, with_none, block-agrees, flags_of, fewer}
 use Rattle.pixels.proofs.frame_pixels.Goals as goal
 
 pub loop-block-init : goal.loop-block-init

@@ -1,11 +1,7 @@
-use borrow.Author.Rules.{rules}
-use Prim.Native.Nat.{ℕ, ◌+◌, ◌*◌, ◌-◌, ◌≤◌}
-use mathlib.Core.Path.{◌≡◌}
-use native.Mathlib.Omega.{arith}
-use borrow.Author.Tests.{not-true}
+use Prim.Native.Nat.{◌*◌, ◌-◌, ◌≤◌}
 use Rattle.roots.specs.Many.{side}
-use Rattle.pixels.specs.Inner.{Lent, lent, Table, table, frame_bits}
-use Rattle.pixels.proofs.Blocks.{Upto, none_yet, with-block, with_none, block-agrees, flags_of, fewer}
+use Rattle.pixels.specs.Inner.{lent, table, frame_bits}
+use Rattle.pixels.proofs.Blocks.{Upto}
 use Rattle.pixels.proofs.frame_pixels.Given as goal
 
 abbrev pub invariant-loop-block : goal.invariant-loop-block

@@ -1,11 +1,6 @@
 -- `pixels::held_block` meets its contract: entry by entry. Assumes nothing.
 use borrow.Author.Rules.{rules}
-use Prim.Native.Nat.{ℕ, ◌+◌, ◌-◌}
-use lib.Ieee.{nan}
-use Rattle.lists.proofs.Each.{Entering, begun, entered, all-entered}
-use Rattle.roots.specs.Many.{side}
-use Rattle.pixels.specs.Pixels.{held}
-use Rattle.pixels.specs.Blocks.{is}
+use Rattle.lists.proofs.Each.{begun, entered, all-entered}
 use Rattle.pixels.proofs.held_block.Goals as goal
 
 pub loop-i-init : goal.loop-i-init

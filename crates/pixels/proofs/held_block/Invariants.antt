@@ -1,7 +1,6 @@
-use borrow.Author.Rules.{rules}
 use Prim.Native.Nat.{ℕ, ◌+◌, ◌-◌}
 use lib.Ieee.{nan}
-use Rattle.lists.proofs.Each.{Entering, begun, entered, all-entered}
+use Rattle.lists.proofs.Each.{Entering}
 use Rattle.roots.specs.Many.{side}
 use Rattle.pixels.specs.Pixels.{held}
 use Rattle.pixels.specs.Blocks.{is}

@@ -1,5 +1,5 @@
 -- `pixels::infrared_at` meets its contract: its callees' contracts, one after the other. Assumes nothing.
-use borrow.Author.Rules.{rules, sfits_of}
+use borrow.Author.Rules.{sfits_of}
 use mathlib.Core.Path.{refl}
 use mir.Facts.{to_z-of_z}
 use mir.Syntax.{w32}

@@ -1,8 +1,7 @@
-use borrow.Author.Rules.{rules}
 use Prim.Native.Nat.{ℕ, ◌+◌, ◌-◌}
 use lib.ListN.{get_or}
 use lib.Ieee.{nan}
-use Rattle.lists.proofs.Each.{Entering, begun, entered, all-entered}
+use Rattle.lists.proofs.Each.{Entering}
 use Rattle.roots.specs.Many.{side}
 use Rattle.pixels.specs.Inner.{raw_of}
 use Rattle.pixels.specs.Blocks.{is}

@@ -1,6 +1,6 @@
 -- `pixels::lost_flag` meets its contract: what is not a number is written as the pattern, and nothing else is. Assumes nothing.
 use borrow.Author.Rules.{rules}
-use mathlib.Core.Path.{◌≡◌, sym, ap, ◌∙◌}
+use mathlib.Core.Path.{sym, ap, ◌∙◌}
 use mathlib.Core.Bool.{Bool}
 use Rattle.lists.specs.Pick.{pick}
 use Rattle.floats.proofs.Nan.{differs, agrees}

@@ -1,5 +1,4 @@
 -- `pixels::masked` meets its contract: the mask byte is the pixel's. Assumes nothing.
-use borrow.Author.Rules.{rules}
 use mathlib.Core.Path.{refl}
 use Rattle.pixels.specs.Pixels.{touched}
 use Rattle.pixels.proofs.masked.Goals as goal

@@ -1,10 +1,6 @@
 -- `pixels::number_bits` meets its contract: entry by entry. Assumes nothing.
 use borrow.Author.Rules.{rules}
-use Prim.Native.Nat.{ℕ, ◌-◌}
-use Rattle.lists.proofs.Each.{Entering, begun, entered, all-entered}
-use Rattle.roots.specs.Many.{side}
-use Rattle.pixels.specs.Inner.{number_bits}
-use Rattle.pixels.specs.Blocks.{IsNat, lost_flag}
+use Rattle.lists.proofs.Each.{begun, entered, all-entered}
 use Rattle.pixels.proofs.number_bits.Goals as goal
 
 pub loop-i-init : goal.loop-i-init

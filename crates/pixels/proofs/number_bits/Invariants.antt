@@ -1,6 +1,5 @@
-use borrow.Author.Rules.{rules}
 use Prim.Native.Nat.{ℕ, ◌-◌}
-use Rattle.lists.proofs.Each.{Entering, begun, entered, all-entered}
+use Rattle.lists.proofs.Each.{Entering}
 use Rattle.roots.specs.Many.{side}
 use Rattle.pixels.specs.Inner.{number_bits}
 use Rattle.pixels.specs.Blocks.{IsNat, lost_flag}

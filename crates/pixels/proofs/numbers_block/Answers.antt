@@ -1,8 +1,6 @@
 -- `pixels::numbers_block` meets its contract, for each source. Assumes nothing.
-use borrow.Author.Rules.{rules}
-use mathlib.Core.Path.{◌≡◌, ◌∙◌}
+use mathlib.Core.Path.{◌∙◌}
 use native.Mathlib.Omega.{arith}
-use Rattle.pixels.specs.Inner.{lent, Lent}
 use Rattle.pixels.proofs.Blocks.{readable, from-pixels, from-destination}
 use Rattle.pixels.proofs.numbers_block.Goals as goal
 use Rattle.pixels.proofs.numbers_block.Goals.{Start}

@@ -1,17 +1,14 @@
 -- `pixels::raise_ranges` meets its contract: entry by entry, each from its old value. Assumes nothing.
 use borrow.Author.Rules.{rules}
-use Prim.Native.Nat.{ℕ, ◌-◌, ◌≤◌}
-use mathlib.Core.Path.{◌≡◌, refl, ap, ◌∙◌}
+use Prim.Native.Nat.{ℕ}
+use mathlib.Core.Path.{refl, ap, ◌∙◌}
 use native.Mathlib.Nat.{le_refl}
 use native.Mathlib.Omega.{arith}
-use lib.ListN.{get_or}
 use lib.Seq.{get_or-set_other}
 use lib.Ieee.{le}
 use Rattle.lists.specs.Pick.{pick}
-use Rattle.lists.proofs.Each.{Entering, begun, entered, all-entered}
-use Rattle.roots.specs.Many.{side}
+use Rattle.lists.proofs.Each.{begun, entered, all-entered}
 use Rattle.pixels.specs.Inner.{v}
-use Rattle.pixels.specs.Blocks.{IsNat}
 use Rattle.pixels.proofs.raise_ranges.Goals as goal
 
 pub loop-i-init : goal.loop-i-init

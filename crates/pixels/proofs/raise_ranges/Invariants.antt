@@ -1,13 +1,9 @@
-use borrow.Author.Rules.{rules}
 use Prim.Native.Nat.{ℕ, ◌-◌, ◌≤◌}
-use mathlib.Core.Path.{◌≡◌, refl, ap, ◌∙◌}
-use native.Mathlib.Nat.{le_refl}
-use native.Mathlib.Omega.{arith}
+use mathlib.Core.Path.{◌≡◌}
 use lib.ListN.{get_or}
-use lib.Seq.{get_or-set_other}
 use lib.Ieee.{le}
 use Rattle.lists.specs.Pick.{pick}
-use Rattle.lists.proofs.Each.{Entering, begun, entered, all-entered}
+use Rattle.lists.proofs.Each.{Entering}
 use Rattle.roots.specs.Many.{side}
 use Rattle.pixels.specs.Inner.{v}
 use Rattle.pixels.specs.Blocks.{IsNat}

@@ -1,7 +1,6 @@
 -- `pixels::ranged_block` meets its contract: basic temperatures, their ranges, and the temperatures by those. Assumes nothing.
 use borrow.Author.Rules.{rules}
-use Prim.Native.Nat.{ℕ, ◌<◌}
-use mathlib.Core.Path.{◌≡◌, refl, ap, ◌∙◌}
+use mathlib.Core.Path.{ap, ◌∙◌}
 use lib.ListN.{get_or-replicate}
 use Rattle.root.specs.Root.{celsius}
 use Rattle.roots.specs.Many.{side}

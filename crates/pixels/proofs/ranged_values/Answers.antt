@@ -1,19 +1,16 @@
 -- `pixels::ranged_values` meets its contract: entry by entry. Assumes nothing.
 use borrow.Author.Rules.{rules}
-use Prim.Native.Nat.{ℕ, ◌+◌, ◌-◌, ◌<◌}
+use Prim.Native.Nat.{◌<◌}
 use mathlib.Core.Path.{◌≡◌, ap, ◌∙◌}
 use native.Mathlib.Omega.{arith}
-use lib.ListN.{get_or, length}
+use lib.ListN.{length}
 use mir.Facts.{to_z-of_z}
 use mir.Syntax.{w16}
 use mir.Val.{to_z, of_z}
 use Rattle.floats.specs.Floats.{real}
 use Rattle.ranges.specs.Corners.{corner_at}
-use lib.Ieee.{Float, nan}
-use Rattle.lists.proofs.Each.{Entering, begun, entered, all-entered}
+use Rattle.lists.proofs.Each.{begun, entered, all-entered}
 use Rattle.roots.specs.Many.{side}
-use Rattle.pixels.specs.Inner.{table, ranged_from, v}
-use Rattle.pixels.specs.Blocks.{is}
 use Rattle.pixels.proofs.Temperatures.{ranged-value}
 use Rattle.pixels.proofs.ranged_values.Goals as goal
 

@@ -1,19 +1,10 @@
-use borrow.Author.Rules.{rules}
-use Prim.Native.Nat.{ℕ, ◌+◌, ◌-◌, ◌<◌}
-use mathlib.Core.Path.{◌≡◌, ap, ◌∙◌}
-use native.Mathlib.Omega.{arith}
-use lib.ListN.{get_or, length}
-use mir.Facts.{to_z-of_z}
-use mir.Syntax.{w16}
-use mir.Val.{to_z, of_z}
-use Rattle.floats.specs.Floats.{real}
-use Rattle.ranges.specs.Corners.{corner_at}
-use lib.Ieee.{Float, nan}
-use Rattle.lists.proofs.Each.{Entering, begun, entered, all-entered}
+use Prim.Native.Nat.{ℕ, ◌+◌, ◌-◌}
+use lib.ListN.{get_or}
+use lib.Ieee.{nan}
+use Rattle.lists.proofs.Each.{Entering}
 use Rattle.roots.specs.Many.{side}
 use Rattle.pixels.specs.Inner.{table, ranged_from, v}
 use Rattle.pixels.specs.Blocks.{is}
-use Rattle.pixels.proofs.Temperatures.{ranged-value}
 use Rattle.pixels.proofs.ranged_values.Given as goal
 
 abbrev pub invariant-loop-i : goal.invariant-loop-i

@@ -1,5 +1,4 @@
 -- `pixels::reading_at` meets its contract: its callees' contracts, one after the other. Assumes nothing.
-use borrow.Author.Rules.{rules}
 use mir.Facts.{to_z-of_z}
 use mir.Syntax.{w16}
 use Rattle.pixels.specs.Pixels.{reading_at}

@@ -1,9 +1,8 @@
 -- `pixels::real` meets its contract: only the sum of the two halves rounds. Assumes nothing.
-use mathlib.Core.Path.{sym, ap₂, ◌∙◌, subst}
-use lib.Dec.{T}
+use mathlib.Core.Path.{ap₂, ◌∙◌}
 use lib.IntN.{ℤ}
-use lib.Ieee.{binary32, add, mul, of_int, in_float}
-use Rattle.pixels.proofs.Halves.{shift, upper_is, lower-is, upper_in, lower_in, halves}
+use lib.Ieee.{binary32, add, mul, of_int}
+use Rattle.pixels.proofs.Halves.{shift, upper_is, lower-is, halves}
 use Rattle.pixels.proofs.real.Goals as goal
 
 pub returns : goal.returns

@@ -1,9 +1,6 @@
 -- `pixels::temperature_block` meets its contract: what the inner roots are taken of, the roots, the final values, and their temperatures. Assumes nothing.
-use borrow.Author.Rules.{rules}
-use mathlib.Core.Path.{◌≡◌, sym, ap, ◌∙◌}
-use lib.Ieee.{Float}
+use mathlib.Core.Path.{ap, ◌∙◌}
 use Rattle.root.specs.Root.{root, celsius}
-use Rattle.pixels.specs.Inner.{rooted_at}
 use Rattle.pixels.proofs.Temperatures.{rooted}
 use Rattle.pixels.proofs.temperature_block.Goals as goal
 

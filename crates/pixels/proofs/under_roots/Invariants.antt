@@ -1,10 +1,7 @@
-use borrow.Author.Rules.{rules}
 use Prim.Native.Nat.{ℕ, ◌+◌, ◌-◌}
-use mathlib.Core.Path.{◌≡◌, ap, ◌∙◌}
-use lib.Ieee.{Float, nan}
-use Rattle.lists.proofs.Each.{Entering, begun, entered, all-entered}
+use lib.Ieee.{nan}
+use Rattle.lists.proofs.Each.{Entering}
 use Rattle.roots.specs.Many.{side}
-use Rattle.formulas.specs.Inner.{lifted_under}
 use Rattle.pixels.specs.Inner.{under_at, v}
 use Rattle.pixels.specs.Blocks.{is}
 use Rattle.pixels.proofs.under_roots.Given as goal

@@ -1,14 +1,13 @@
 -- `pixels::write_block` meets its contract: each pixel is left, or written and counted by its flag. Assumes nothing.
 use borrow.Author.Rules.{rules}
-use Prim.Native.Nat.{ℕ, ◌+◌, ◌-◌, ◌≤◌, ◌<◌}
-use mathlib.Core.Path.{◌≡◌, refl, sym, ap, ap₂, ◌∙◌}
+use Prim.Native.Nat.{ℕ, ◌+◌, ◌<◌}
+use mathlib.Core.Path.{◌≡◌, refl, ap, ap₂, ◌∙◌}
 use mathlib.Core.Bool.{Bool}
 use native.Mathlib.Omega.{arith}
 use lib.ListN.{get_or}
 use Rattle.lists.specs.Pick.{pick}
 use Rattle.roots.specs.Many.{side}
 use Rattle.pixels.specs.Pixels.{touched}
-use Rattle.pixels.specs.Blocks.{lost_flag, Block}
 use Rattle.pixels.proofs.Steps.{start, stepped, at_most_one}
 use Rattle.pixels.proofs.write_block.Goals as goal
 

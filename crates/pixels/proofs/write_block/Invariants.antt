@@ -1,14 +1,7 @@
-use borrow.Author.Rules.{rules}
-use Prim.Native.Nat.{ℕ, ◌+◌, ◌-◌, ◌≤◌, ◌<◌}
-use mathlib.Core.Path.{◌≡◌, refl, sym, ap, ap₂, ◌∙◌}
-use mathlib.Core.Bool.{Bool}
-use native.Mathlib.Omega.{arith}
+use Prim.Native.Nat.{ℕ, ◌-◌, ◌≤◌}
 use lib.ListN.{get_or}
-use Rattle.lists.specs.Pick.{pick}
 use Rattle.roots.specs.Many.{side}
-use Rattle.pixels.specs.Pixels.{touched}
-use Rattle.pixels.specs.Blocks.{lost_flag, Block}
-use Rattle.pixels.proofs.Steps.{start, stepped, at_most_one}
+use Rattle.pixels.specs.Blocks.{Block}
 use Rattle.pixels.proofs.write_block.Given as goal
 
 abbrev pub invariant-loop-i : goal.invariant-loop-i

@@ -1,0 +1,9 @@
+-- `calibration::zero_factor` meets its contract: it reads the ranges and searches them. Assumes nothing.
+use borrow.Author.Rules.{rules}
+use mathlib.Core.Path.{ap, ◌∙◌}
+use Rattle.calibration.specs.declared.Ranges.{Ranges}
+use Rattle.calibration.specs.Coefficients.{zero_factor}
+use Rattle.calibration.proofs.zero_factor.Goals as goal
+
+pub returns : goal.returns
+returns c = c.zero_factor.ensures ∙ ap (λ (g : Ranges). zero_factor g c.args.basic_range) c.read_ranges.ensures

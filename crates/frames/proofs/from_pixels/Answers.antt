@@ -1,0 +1,57 @@
+-- `frames::from_pixels` meets its contract: the gate's verdict is returned, or else the pixels are computed with the frame's own numbers. Assumes nothing.
+use mathlib.Core.Path.{◌≡◌, sym, ap, ◌∙◌}
+use native.Mathlib.Omega.{arith}
+use lib.Ieee.{binary32, to_bits}
+use Rattle.formulas.specs.declared.CommonIrData.{CommonIrData}
+use Rattle.formulas.specs.Frame.{common_of}
+use Rattle.pixels.proofs.Blocks.{workable}
+use Rattle.frames.specs.Frames.{IrCall, PassCall, common}
+use Rattle.frames.specs.Inner.{any_ir, ranges_of, any_pass, made_bits}
+use Rattle.frames.proofs.Calls.{refused, done, same_bits}
+use Rattle.frames.proofs.ByWanted as by
+use Rattle.frames.proofs.from_pixels.Goals as goal
+
+common-is : (f : IrCall) {x : CommonIrData} → x ≡ common_of f.constants f.settings f.ram → x ≡ common f
+unfolding common
+common-is f e = e
+
+pub returns-in-Refused : goal.returns-in-Refused
+returns-in-Refused c =
+    let a = c.args in
+    let gated = c.gate-verdict.ensures
+    ∙ by.verdict-is a.call a.pixels.now a.offsets.now a.k_ta.now a.k_v.now a.access.now a.mask.now a.corners.now a.k_s_to.now a.coefficients.now a.alpha.now a.call.wanted a.destination.now in
+    refused (sym gated ∙ c.in-Refused.is)
+
+pub goal_of-requires : goal.goal_of-requires
+goal_of-requires c =
+    let a = c.args in
+    let gated = c.gate-verdict.ensures
+    ∙ by.verdict-is a.call a.pixels.now a.offsets.now a.k_ta.now a.k_v.now a.access.now a.mask.now a.corners.now a.k_s_to.now a.coefficients.now a.alpha.now a.call.wanted a.destination.now in
+    (by.opened a.call a.pixels.now a.offsets.now a.k_ta.now a.k_v.now a.access.now a.mask.now a.corners.now a.k_s_to.now a.coefficients.now a.alpha.now a.call.wanted a.destination.now c.requires.ranges_nonzero (sym gated ∙ c.in_default.is)).in-range
+
+pub frame_pixels-lost-requires : goal.frame_pixels-lost-requires
+frame_pixels-lost-requires c =
+    let a = c.args in
+    let gated = c.gate-verdict.ensures
+    ∙ by.verdict-is a.call a.pixels.now a.offsets.now a.k_ta.now a.k_v.now a.access.now a.mask.now a.corners.now a.k_s_to.now a.coefficients.now a.alpha.now a.call.wanted a.destination.now in
+    let o = by.opened a.call a.pixels.now a.offsets.now a.k_ta.now a.k_v.now a.access.now a.mask.now a.corners.now a.k_s_to.now a.coefficients.now a.alpha.now a.call.wanted a.destination.now c.requires.ranges_nonzero (sym gated ∙ c.in_default.is) in
+    let l = o.long in
+    let p = c.requires.blocks_bound in
+    record {
+      blocks_bound = (p.0, l.mask, l.destination);
+      readable_for = record { pixels = omega (arith, l.pixels); tables = p.1 l.table };
+      workable_for = workable _ _ (sym c.goal_of.ensures) (o.workable _);
+    }
+
+pub returns : goal.returns
+returns c =
+    let a = c.args in
+    let w = c.frame_pixels-lost.ensures in
+    let ir : IrCall = any_ir a.call a.pixels.now a.offsets.now a.k_ta.now a.k_v.now a.access.now a.mask.now in
+    let pass : PassCall = any_pass ir (ranges_of a.call.ranges a.corners.now a.k_s_to.now a.coefficients.now) a.alpha.now in
+    let gated = c.gate-verdict.ensures
+    ∙ by.verdict-is a.call a.pixels.now a.offsets.now a.k_ta.now a.k_v.now a.access.now a.mask.now a.corners.now a.k_s_to.now a.coefficients.now a.alpha.now a.call.wanted a.destination.now in
+    let shared = common-is ir c.common_ir_data-common.ensures in
+    same_bits (made_bits a.call.wanted pass)
+    (λ k h _. by.bits_are a.call a.pixels.now a.offsets.now a.k_ta.now a.k_v.now a.access.now a.mask.now a.corners.now a.k_s_to.now a.coefficients.now a.alpha.now a.call.wanted a.destination.now k shared c.compensation-deduction.ensures c.goal_of.ensures)
+    (done (sym gated ∙ c.in_default.is) (c.to_bits.ensures ∙ ap (λ (x : CommonIrData). to_bits binary32 x.t_a) shared) w.count w.destination)
