@@ -8,8 +8,7 @@ use Rattle.lists.specs.Pick.{pick}
 use Rattle.eeprom.specs.Load.{Tables, tables}
 use Rattle.reader.specs.declared.Reading.{Reading}
 use Rattle.reader.specs.Calls.{After, after, takes_on, takes}
-use Rattle.reader.proofs.take.Statement.{statement}
-use Rattle.reader.proofs.take.Tie as tie
+use Rattle.reader.proofs.take.Goals as goal
 
 -- the cases of the definition
 module _ (image : List ℕ) (reading : Reading) (piece : List ℕ) (range : ℕ) (t : Tables) where
@@ -24,32 +23,14 @@ module _ (image : List ℕ) (reading : Reading) (piece : List ℕ) (range : ℕ)
   unfolding takes
   again e = sym (ap by e)
 
-abbrev lent : tie.Start → Tables
-lent s = let a = s.args in tables a.offsets0.now a.offsets1.now a.alpha.now a.k_v.now a.k_ta.now
+pub returns-then-answer : goal.returns-then-answer
+returns-then-answer c =
+    let a = c.args in
+    let lent = tables a.offsets0.now a.offsets1.now a.alpha.now a.k_v.now a.k_ta.now in
+    c.take_on.ensures ∙ goes_on a.image.now a.reading a.piece.now a.basic_range lent c.if-answer.true
 
-returns : tie.Need-returns
+pub returns : goal.returns
 returns c =
-    let o = c.before.before.before.before.before.before.before.before in
-    let e = o.before.before.before.before.before.before.before in
-    let s = e.before.before.before.before.before.before in
-    let a = s.args in
-    o.take_on.ensures ∙ goes_on a.image.now a.reading a.piece.now a.basic-range (lent s) e.if1.true
-
-returns-2 : tie.Need-returns-2
-returns-2 c =
-    let s = c.before.before.before.before.before.before in
-    let a = s.args in
-    again a.image.now a.reading a.piece.now a.basic-range (lent s) c.if1.false
-
-pub take_spec : {M : Type 1} → statement M
-take_spec =
-    tie.close
-    (tie.spec
-    (λ c κs. search rules)
-    (λ c. search rules)
-    (λ c. search rules)
-    (λ c. search rules)
-    (λ c. search rules)
-    (λ c. search rules)
-    returns
-    returns-2)
+    let a = c.args in
+    let lent = tables a.offsets0.now a.offsets1.now a.alpha.now a.k_v.now a.k_ta.now in
+    again a.image.now a.reading a.piece.now a.basic_range lent c.if-answer.false

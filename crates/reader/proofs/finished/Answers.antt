@@ -11,8 +11,7 @@ use Rattle.refusal.specs.declared.Refusal.TheVariants.{ShortImage}
 use Rattle.reader.specs.declared.Answer.{Answer}
 use Rattle.reader.specs.declared.Reading.{Reading}
 use Rattle.reader.specs.Calls.{refused, finishes}
-use Rattle.reader.proofs.finished.Statement.{statement}
-use Rattle.reader.proofs.finished.Tie as tie
+use Rattle.reader.proofs.finished.Goals as goal
 
 -- the cases of the definition
 module _ (r : Reading) where
@@ -31,16 +30,13 @@ module _ (r : Reading) where
   unfolding finishes
   again e = sym (ap (λ (b : Bool). by b (ltb r.count image_bytes)) e)
 
-returns : tie.Need-returns
-returns c =
-    let r = c.before.before.before.before.args.reading in
-    early r _ c.before.before.if1.true c.before.if2.true c.refuse.ensures
+pub returns-then-count-lt-IMAGE_BYTES : goal.returns-then-count-lt-IMAGE_BYTES
+returns-then-count-lt-IMAGE_BYTES c =
+    let r = c.args.reading in
+    early r _ c.if-told.true c.if-count-lt-IMAGE_BYTES.true c.refuse.ensures
 
-returns-2 : tie.Need-returns-2
-returns-2 c = full c.before.before.before.args.reading c.before.if1.true c.if2.false
+pub returns-else-count-lt-IMAGE_BYTES : goal.returns-else-count-lt-IMAGE_BYTES
+returns-else-count-lt-IMAGE_BYTES c = full c.args.reading c.if-told.true c.if-count-lt-IMAGE_BYTES.false
 
-returns-3 : tie.Need-returns-3
-returns-3 c = again c.before.before.args.reading c.if1.false
-
-pub finished-spec : {M : Type 1} → statement M
-finished-spec = tie.close (tie.spec (λ c κs. search rules) returns returns-2 returns-3)
+pub returns-else-told : goal.returns-else-told
+returns-else-told c = again c.args.reading c.if-told.false

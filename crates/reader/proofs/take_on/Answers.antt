@@ -13,8 +13,7 @@ use Rattle.reader.specs.declared.Kept.{Kept}
 use Rattle.reader.specs.declared.Reading.{Reading}
 use Rattle.reader.specs.Bytes.{held, fed}
 use Rattle.reader.specs.Calls.{refused, judged, judges, after, takes_on}
-use Rattle.reader.proofs.take_on.Statement.{statement}
-use Rattle.reader.proofs.take_on.Tie as tie
+use Rattle.reader.proofs.take_on.Goals as goal
 
 -- the cases of the definition
 module _ (image : List ℕ) (reading : Reading) (piece : List ℕ) (range : ℕ) (t : Tables) where
@@ -32,50 +31,22 @@ module _ (image : List ℕ) (reading : Reading) (piece : List ℕ) (range : ℕ)
   unfolding takes_on
   taken n e l z f j = rw (le-ltb _ _ (rw e at l), ne_eqb _ 0 z, ← f, ← j) refl
 
-module _ (s : tie.Start) where
-  abbrev image : List ℕ
-  image = s.args.image.now
+pub returns-then-table-lt-PIXELS : goal.returns-then-table-lt-PIXELS
+returns-then-table-lt-PIXELS c =
+    let a = c.args in
+    let lent = tables a.offsets0.now a.offsets1.now a.alpha.now a.k_v.now a.k_ta.now in
+    ap (λ (q : Answer). after a.image.now lent (record { reading = a.reading; answer = q })) c.refuse-answer.ensures
+    ∙ short a.image.now a.reading a.piece.now a.basic_range lent _ c.shortest_of-table.ensures c.if-table-lt-PIXELS.true
 
-  abbrev piece : List ℕ
-  piece = s.args.piece.now
+pub returns-then-piece-eq0 : goal.returns-then-piece-eq0
+returns-then-piece-eq0 c =
+    let a = c.args in
+    let lent = tables a.offsets0.now a.offsets1.now a.alpha.now a.k_v.now a.k_ta.now in
+    nothing a.image.now a.reading a.piece.now a.basic_range lent _ c.shortest_of-table.ensures c.if-table-lt-PIXELS.false c.if-piece-eq0.true
 
-  abbrev lent : Tables
-  lent = let a = s.args in tables a.offsets0.now a.offsets1.now a.alpha.now a.k_v.now a.k_ta.now
-
-returns : tie.Need-returns
+pub returns : goal.returns
 returns c =
-    let s = c.before.before.before.before.before.before.before in
-    ap (λ (a : Answer). after (image s) (lent s) (record { reading = s.args.reading; answer = a })) c.refuse.ensures
-    ∙ short (image s) s.args.reading (piece s) s.args.basic-range (lent s) _ c.before.before.shortest-of.ensures c.before.if1.true
-
-returns-2 : tie.Need-returns-2
-returns-2 c =
-    let e = c.before.before in
-    let s = e.before.before.before.before.before.before in
-    nothing (image s) s.args.reading (piece s) s.args.basic-range (lent s) _ e.before.shortest-of.ensures e.if1.false c.before.if2.true
-
-returns-3 : tie.Need-returns-3
-returns-3 c =
-    let j = c.before.before.before.before.before.before.before.before in
-    let f = j.before.before.before.before.before.before.before in
-    let z = f.before.before in
-    let e = z.before in
-    let s = e.before.before.before.before.before.before in
-    taken (image s) s.args.reading (piece s) s.args.basic-range (lent s) _ e.before.shortest-of.ensures e.if1.false z.if2.false f.feed.ensures j.judge.ensures
-
-pub take-on-spec : {M : Type 1} → statement M
-take-on-spec =
-    tie.close
-    (tie.spec
-    (λ c κs. search rules)
-    (λ c κs. search rules)
-    returns
-    returns-2
-    (λ c κs. search rules)
-    (λ c κs. search rules)
-    (λ c. search rules)
-    (λ c. search rules)
-    (λ c. search rules)
-    (λ c. search rules)
-    (λ c. search rules)
-    returns-3)
+    let a = c.args in
+    let lent = tables a.offsets0.now a.offsets1.now a.alpha.now a.k_v.now a.k_ta.now in
+    taken a.image.now a.reading a.piece.now a.basic_range lent _ c.shortest_of-table.ensures c.if-table-lt-PIXELS.false c.if-piece-eq0.false
+    c.feed-kept.ensures c.judge-said.ensures
