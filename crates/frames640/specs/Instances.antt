@@ -1,7 +1,6 @@
 -- Laws of any camera's calls, for this camera's. (Demand and Lost of frames/specs and frames/proofs/Single hold for any call, and so for these.)
 -- Assumes nothing.
 use Rattle.std.specs.Prelude.{ℕ, ◌≡◌, List, ℤ, Float}
-use Rattle.frames.specs.Frames.{PassCall}
 use Rattle.frames.specs.OneOrTwo.{OneOrTwo, second}
 use Rattle.frames.specs.Filtered.{AsPlain}
 use Rattle.record640.specs.declared.Calibration.{Calibration}

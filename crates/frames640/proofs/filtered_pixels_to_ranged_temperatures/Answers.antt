@@ -1,0 +1,13 @@
+-- `frames640::filtered_pixels_to_ranged_temperatures` meets its contract: the filter's average, or the frame's own compensation reading, is passed on.
+-- Assumes nothing.
+use lib.Ieee.{Float}
+use Rattle.frames.specs.declared.Wanted.TheVariants.{Ranged}
+use Rattle.frames.proofs.Calls.{makes-with}
+use Rattle.frames640.specs.Frames.{ir_call, pass_call}
+use Rattle.frames640.proofs.filtered_pixels_to_ranged_temperatures.Goals as goal
+
+pub returns : goal.returns
+returns c =
+    let a = c.args in
+    makes-with Ranged (λ (x : Float). pass_call a.calibration (ir_call a.calibration a.filtered.input x a.offsets.now a.k_ta.now a.pixels.now a.mask.now) a.alpha.now)
+    c.steadied-reading.ensures c.from_pixels.ensures

@@ -1,0 +1,12 @@
+-- `frames640::raw_pixels_to_ranged_temperatures` meets its contract: the frame's own compensation reading is passed on. Assumes nothing.
+use lib.Ieee.{Float}
+use Rattle.frames.specs.declared.Wanted.TheVariants.{Ranged}
+use Rattle.frames.proofs.Calls.{makes-with}
+use Rattle.frames640.specs.Frames.{ir_call, pass_call}
+use Rattle.frames640.proofs.raw_pixels_to_ranged_temperatures.Goals as goal
+
+pub returns : goal.returns
+returns c =
+    let a = c.args in
+    makes-with Ranged (λ (x : Float). pass_call a.calibration (ir_call a.calibration a.input x a.offsets.now a.k_ta.now a.pixels.now a.mask.now) a.alpha.now)
+    c.own_reading-reading.ensures c.from_pixels.ensures
