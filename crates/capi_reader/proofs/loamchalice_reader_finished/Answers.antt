@@ -7,21 +7,15 @@ use Rattle.reader.specs.declared.Reading.{Reading}
 use Rattle.reader.specs.Calls.{finishes}
 use Rattle.capi_reader.specs.declared.Reader.{Reader}
 use Rattle.capi_reader.specs.Border.{reader_out, reading_in, finishes_out}
-use Rattle.capi_reader.proofs.loamchalice_reader_finished.Statement.{statement}
-use Rattle.capi_reader.proofs.loamchalice_reader_finished.Tie as tie
+use Rattle.capi_reader.proofs.loamchalice_reader_finished.Goals as goal
 
 ends : (reader q : Reader) (given told : Reading) → reader.ended ≡ 0 → given ≡ reading_in reader.count → told ≡ finishes given → q ≡ reader_out told → q ≡ finishes_out reader
 unfolding finishes_out
 ends reader q given told e f g h = rw (eq-eqb _ 0 e, ← f, ← g) h
 
-returns : tie.Need-returns
-returns c = ends _ _ _ _ c.before.before.before.if1.true c.before.before.reading-at.ensures c.before.finished.ensures c.reader-out.ensures
+pub returns-then-reader-eq0 : goal.returns-then-reader-eq0
+returns-then-reader-eq0 c = ends _ _ _ _ c.if-reader-eq0.true c.reading_at-reading.ensures c.finished.ensures c.reader_out.ensures
 
-returns-2 : tie.Need-returns-2
+pub returns : goal.returns
 unfolding finishes_out
-returns-2 c = rw (ne_eqb _ 0 c.if1.false) refl
-
-pub loamchalice-reader-finished-spec : {M : Type 1} → statement M
-loamchalice-reader-finished-spec =
-    tie.close
-    (tie.spec (λ c κs. search rules) (λ c κs. search rules) (λ c κs. search rules) returns returns-2)
+returns c = rw (ne_eqb _ 0 c.if-reader-eq0.false) refl

@@ -12,8 +12,7 @@ use Rattle.reader.specs.Calls.{takes}
 use Rattle.capi_cards.specs.declared.Load.{Load}
 use Rattle.capi_reader.specs.declared.Reader.{Reader}
 use Rattle.capi_reader.specs.Border.{answer_out, reader_out, reading_in, after, takes_out}
-use Rattle.capi_reader.proofs.loamchalice_reader_take.Statement.{statement}
-use Rattle.capi_reader.proofs.loamchalice_reader_take.Tie as tie
+use Rattle.capi_reader.proofs.loamchalice_reader_take.Goals as goal
 
 module _ (image : List ℕ) (reader : Reader) (piece : List ℕ) (range : ℕ) (t : Tables) where
   goes_on : {image' : List ℕ} {u : Tables} {given : Reading} {told : inner.Taken} {q : Reader} {a : Load} → reader.ended ≡ 0 → given ≡ reading_in reader.count
@@ -22,34 +21,12 @@ module _ (image : List ℕ) (reader : Reader) (piece : List ℕ) (range : ℕ) (
   unfolding takes_out
   goes_on e f g h k = rw (eq-eqb _ 0 e, ← f, ← g, h, k) refl
 
-abbrev lent : tie.Start → Tables
-lent s = let a = s.args in tables a.offsets0.now a.offsets1.now a.alpha.now a.k_v.now a.k_ta.now
+pub returns-then-reader-eq0 : goal.returns-then-reader-eq0
+returns-then-reader-eq0 c =
+    let a = c.args in
+    goes_on a.image.now a.reader a.piece.now a.basic_range (tables a.offsets0.now a.offsets1.now a.alpha.now a.k_v.now a.k_ta.now)
+    c.if-reader-eq0.true c.reading_at-reading.ensures c.take-taken.ensures c.reader_out.ensures c.answer_out.ensures
 
-returns : tie.Need-returns
-returns c =
-    let o = c.before.before.before.before.before.before.before.before.before.before.before.before in
-    let g = o.before.before.before.before.before.before.before in
-    let e = g.before in
-    let s = e.before.before.before.before.before.before.before in
-    let a = s.args in
-    goes_on a.image.now a.reader a.piece.now a.basic-range (lent s) e.if1.true g.reading-at.ensures o.take.ensures c.before.reader-out.ensures c.answer-out.ensures
-
-returns-2 : tie.Need-returns-2
+pub returns : goal.returns
 unfolding takes_out
-returns-2 c = rw (ne_eqb _ 0 c.if1.false) refl
-
-pub loamchalice-reader-take-spec : {M : Type 1} → statement M
-loamchalice-reader-take-spec =
-    tie.close
-    (tie.spec
-    (λ c κs. search rules)
-    (λ c κs. search rules)
-    (λ c κs. search rules)
-    (λ c κs. search rules)
-    (λ c. search rules)
-    (λ c. search rules)
-    (λ c. search rules)
-    (λ c. search rules)
-    (λ c. search rules)
-    returns
-    returns-2)
+returns c = rw (ne_eqb _ 0 c.if-reader-eq0.false) refl
