@@ -1,8 +1,6 @@
 -- `capi_reader::loamchalice_reader_finished` meets its contract, before the end and after it. Assumes nothing.
-use borrow.Author.Rules.{rules}
 use borrow.Author.Tests.{eq-eqb, ne_eqb}
-use mathlib.Core.Path.{◌≡◌, refl, ap, ◌∙◌}
-use Prim.Native.Nat.{ℕ}
+use mathlib.Core.Path.{◌≡◌, refl}
 use Rattle.reader.specs.declared.Reading.{Reading}
 use Rattle.reader.specs.Calls.{finishes}
 use Rattle.capi_reader.specs.declared.Reader.{Reader}
