@@ -139,13 +139,13 @@ SH
 
 # alike CRATE X86_64 AARCH64: stops unless rattle's two modules answer as C does. On x86-64 a large argument lies on the stack (byval), and a large result is
 # written through a first pointer, which is returned. C on Arm takes a pointer to a copy, and the address of the result in a register of its own (sret).
-# Exported functions (all others are internal) must on Arm return nothing, a number or two whole numbers in registers (the same on both processors, small
+# Exported functions (all others are internal) must on Arm return nothing, a number or two whole numbers in registers (as C does on both processors; rattle writes [2 x i64] there; small
 # structs of those included), or a struct through sret, as many of these as on x86-64; and no argument may lie on the stack.
 alike() {
     local given moved other
     given=$(exported "$2" | grep -c '^define [^@]*ptr @' || true)
     moved=$(exported "$3" | grep -cE '^define void @[A-Za-z0-9_]+\(ptr noundef sret\(\[[0-9]+ x i8\]\) %a0' || true)
-    other=$(exported "$3" | grep -vE '^define (noundef )?(void|i1|i8|i16|i32|i64|float|double|\{ i64, i64 \}) @[A-Za-z0-9_]+\(' || true)
+    other=$(exported "$3" | grep -vE '^define (noundef )?(void|i1|i8|i16|i32|i64|float|double|\{ i64, i64 \}|\[2 x i64\]) @[A-Za-z0-9_]+\(' || true)
     [ "$given" = "$moved" ] || fail "$1: $given exported functions give a struct on x86-64, and $moved on Arm"
     [ -z "$other" ] || fail "$1: an exported function gives what is not known to be the same on Arm: $other"
     ! grep -q 'byval' "$3" || fail "$1: a struct is still taken on the stack"

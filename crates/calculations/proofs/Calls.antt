@@ -2,10 +2,9 @@
 use Prim.Native.Nat.{ℕ, min}
 use mathlib.Core.Path.{◌≡◌, refl}
 use mathlib.Core.List.{List}
-use lib.IntN.{ℤ, pos}
-use lib.ListN.{get_or, length, replicate}
-use lib.Ieee.{Float, nan}
-use Rattle.floats.specs.Floats.{real}
+use lib.IntN.{ℤ}
+use lib.ListN.{length, replicate}
+use lib.Ieee.{Float}
 use Rattle.floats.specs.Constants.{plus_zero}
 use Rattle.roots.specs.Many.{side}
 use Rattle.calibration.specs.declared.Calibration.{Calibration}

@@ -3,7 +3,6 @@ use Rattle.std.specs.Prelude.{eqb}
 use Rattle.lists.specs.Pick.{pick}
 use Rattle.floats.specs.Constants.{plus_zero}
 use Rattle.filter.specs.declared.Steadied.{Steadied}
-use Rattle.filter.specs.declared.Steadied.TheVariants as Steadied
 use Rattle.calculations.specs.declared.FilteredInput.{FilteredInput}
 use Rattle.capi_frames.specs.Border.{input_in}
 use Rattle.capi_filter.specs.declared.Average.{Average}

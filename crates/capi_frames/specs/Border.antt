@@ -1,5 +1,5 @@
 -- The arguments that C passes to a frame call, and the result that it gets. Assumes nothing.
-use Rattle.std.specs.Prelude.{ℕ, ◌≡◌, eqb}
+use Rattle.std.specs.Prelude.{◌≡◌, eqb}
 use Rattle.lists.specs.Pick.{pick}
 use Rattle.refusal.specs.Refusal.{told_of}
 use Rattle.formulas.specs.declared.RamData.{RamData}

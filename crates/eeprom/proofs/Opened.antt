@@ -3,16 +3,12 @@ use Prim.Native.Nat.{ℕ, min, ◌≤◌}
 use mathlib.Core.Path.{◌≡◌}
 use mathlib.Core.List.{List}
 use native.Mathlib.Omega.{arith}
-use lib.Dec.{leb, ltb}
-use lib.ListN.{length}
 use borrow.Author.Tests.{ltb-false, leb-false}
 use Rattle.refusal.specs.declared.Verdict.TheVariants.{Pass}
-use Rattle.refusal.specs.Order.{first_of}
 use Rattle.refusal.proofs.Order.{passed}
-use Rattle.map.specs.Map.{card_words, image_bytes, frame_pixels}
-use Rattle.card.specs.Card.{data_at, first_damaged}
+use Rattle.map.specs.Map.{frame_pixels}
+use Rattle.card.specs.Card.{data_at}
 use Rattle.card.proofs.Data.{data-lt}
-use Rattle.offsets.specs.Offsets.{scales, offset_scale}
 use Rattle.eeprom.specs.Load.{Tables, data_tests, load_tests, load_verdict}
 use Rattle.eeprom.specs.Inner.{Passed}
 

@@ -19,7 +19,7 @@ use Rattle.card.specs.Card.{damaged_at, first_damaged}
 use Rattle.eeprom.specs.Load.{Tables, shortest, load_tests, load_verdict, Loads}
 use Rattle.reader.specs.declared.Answer.{Answer}
 use Rattle.reader.specs.Bytes.{Held, spoilt_at, first_spoilt, state_of}
-use Rattle.reader.specs.Calls.{loaded_of, lent_after, more, ends, Judged, judged, After, Call, Event, took, State, calling, after_calls, begun, brings, taken_of, judged_of, heard, said_by}
+use Rattle.reader.specs.Calls.{loaded_of, lent_after, ends, Judged, judged, After, Call, Event, took, State, calling, after_calls, begun, brings, taken_of, judged_of, heard, said_by}
 use Rattle.reader.specs.Laws.{bytes_of}
 use Rattle.reader.proofs.Loading.{loads}
 use Rattle.reader.proofs.Local.{word_more, damaged-more}

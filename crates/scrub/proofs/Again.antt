@@ -1,23 +1,20 @@
 -- A second scrub changes nothing. Assumes nothing.
-use Prim.Native.Nat.{ℕ, zero, suc, min, ◌+◌, ◌/◌, ◌≤◌, ◌<◌}
-use mathlib.Core.Path.{◌≡◌, refl, sym, ap, ap₂, ◌∙◌}
+use Prim.Native.Nat.{ℕ, zero, suc, min, ◌/◌, ◌≤◌, ◌<◌}
+use mathlib.Core.Path.{◌≡◌, refl, sym, ap, ◌∙◌}
 use mathlib.Core.Bool.{Bool, false, true}
 use mathlib.Core.List.{List}
 use native.Mathlib.Omega.{arith}
-use lib.ListN.{length, get_or, take, length-take}
+use lib.ListN.{length, take, length-take}
 use lib.Seq.{get_or-take, ext_get_or}
-use Rattle.lists.specs.Pick.{pick}
 use Rattle.lists.specs.Count.{count_below}
-use Rattle.lists.specs.Written.{written, filled}
+use Rattle.lists.specs.Written.{written}
 use Rattle.lists.proofs.Written.{length-written}
 use Rattle.refusal.specs.declared.Verdict.TheVariants.{Pass}
 use Rattle.map.specs.Map.{card_words, image_bytes, checked_words}
 use Rattle.card.specs.Card.{damaged_at}
 use Rattle.listing.specs.Index.{list_index, listed_word}
-use Rattle.writer.specs.Write.{byte_of}
-use Rattle.scrub.specs.declared.Counts.{Counts}
 use Rattle.scrub.specs.declared.Scrubbed.{Scrubbed}
-use Rattle.scrub.specs.Scrub.{mended_at, code_at, scrubbed, how_many, numbered, Lent, left_of, counts_of, Scrubs}
+use Rattle.scrub.specs.Scrub.{mended_at, scrubbed, how_many, numbered, Lent, left_of, counts_of, Scrubs}
 use Rattle.scrub.specs.Laws.{Settled}
 use Rattle.scrub.proofs.Mended.{damaged-checked}
 use Rattle.scrub.proofs.Opened.{closed}

@@ -14,7 +14,7 @@ use Rattle.hamming.proofs.Answers.{check-says}
 use Rattle.hamming.proofs.Laws.{code_of}
 use Rattle.hamming.proofs.Exactly as exactly
 use Rattle.map.specs.Map.{image_bytes, checked}
-use Rattle.card.specs.Card.{read_at, data_at, damaged_at, stray_at}
+use Rattle.card.specs.Card.{read_at, data_at, stray_at}
 use Rattle.card.proofs.Data.{data-lt, not-damaged, data_is, read-checked, says-data}
 use Rattle.writer.proofs.Codes.{encoded-clean}
 use Rattle.scrub.specs.Scrub.{mended_at, code_at, scrubbed}

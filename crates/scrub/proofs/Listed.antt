@@ -1,12 +1,11 @@
 -- The two lists: the numbers of the words that pass a test, each once, ascending, and no other. Assumes nothing.
 use Prim.Native.Nat.{ℕ, ◌+◌, ◌-◌, ◌≤◌, ◌<◌}
-use mathlib.Core.Path.{◌≡◌, refl, sym, ap, ◌∙◌, subst}
+use mathlib.Core.Path.{◌≡◌, sym, ap, ◌∙◌, subst}
 use mathlib.Core.Bool.{Bool, true}
 use mathlib.Core.List.{List}
 use native.Mathlib.Nat.{lt_of_not-le}
 use native.Mathlib.Omega.{arith}
 use lib.ListN.{length, get_or}
-use Rattle.lists.specs.Written.{filled}
 use Rattle.lists.proofs.Written.{written_at}
 use Rattle.refusal.specs.declared.Verdict.{Verdict}
 use Rattle.refusal.specs.declared.Verdict.TheVariants.{Pass}
@@ -15,9 +14,8 @@ use Rattle.map.specs.Map.{card_words, checked_words, checked}
 use Rattle.card.specs.Card.{damaged_at}
 use Rattle.listing.specs.Index.{list_index, listed_word}
 use Rattle.listing.proofs.Index.{rises, index-before, word-of-index, listed-lt, is-listed, index-of-word, checked-all}
-use Rattle.scrub.specs.declared.Counts.{Counts}
 use Rattle.scrub.specs.declared.Scrubbed.{Scrubbed}
-use Rattle.scrub.specs.Scrub.{mended_at, Lent, left_of, counts_of, no_counts, how_many, numbered, scrub_verdict, Scrubs}
+use Rattle.scrub.specs.Scrub.{mended_at, Lent, left_of, counts_of, how_many, numbered, Scrubs}
 use Rattle.scrub.specs.Laws.{Lists}
 use Rattle.scrub.proofs.Mended.{mended-checked, damaged-checked}
 use Rattle.scrub.proofs.Noted.{fewer}

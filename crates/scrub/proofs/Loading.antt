@@ -1,25 +1,23 @@
 -- A card loads after a scrub as it did before, and counts no word as mended. Assumes nothing.
 use Prim.Native.Nat.{ℕ, zero, suc, ◌≤◌, ◌<◌}
-use mathlib.Core.Path.{◌≡◌, refl, sym, ap, ap₂, ◌∙◌}
+use mathlib.Core.Path.{◌≡◌, refl, sym, ap₂, ◌∙◌}
 use mathlib.Core.Bool.{Bool, false}
 use mathlib.Core.List.{List}
 use native.Mathlib.Nat.{le_refl}
 use native.Mathlib.Omega.{arith}
 use borrow.Author.Tests.{ltb-false}
 use lib.ListN.{length}
-use Rattle.lists.specs.Pick.{pick}
 use Rattle.lists.specs.Count.{count_below}
 use Rattle.lists.specs.Last.{last_below}
 use Rattle.refusal.specs.declared.Verdict.{Verdict}
 use Rattle.refusal.specs.declared.Verdict.TheVariants.{Pass, Refused}
 use Rattle.refusal.specs.Refusal.{unless}
-use Rattle.refusal.specs.Order.{first_of}
 use Rattle.refusal.proofs.Order.{passed}
 use Rattle.map.specs.Map.{card_words, image_bytes}
-use Rattle.card.specs.Card.{data_at, first_damaged, stray_at, mending_below, mending_of, no_mending}
+use Rattle.card.specs.Card.{first_damaged, stray_at, mending_below, mending_of, no_mending}
 use Rattle.card.specs.declared.Mending.{Mending}
 use Rattle.eeprom.specs.declared.Loaded.{Loaded}
-use Rattle.eeprom.specs.Load.{Tables, shortest, load_tests, load_verdict, Loads}
+use Rattle.eeprom.specs.Load.{Tables, load_tests, load_verdict, Loads}
 use Rattle.writer.proofs.Round.{undamaged}
 use Rattle.writer.proofs.Loads.{same_load}
 use Rattle.scrub.specs.declared.Scrubbed.{Scrubbed}

@@ -24,7 +24,7 @@ use Rattle.hamming.specs.Word.{data_values, parity, with_four, encoded, codeword
 use Rattle.map.specs.Map.{card_words, image_bytes, checked_words, checked}
 use Rattle.card.specs.Card.{data_at, damaged_at, first_damaged, stray_at}
 use Rattle.card.proofs.Data.{data-lt}
-use Rattle.listing.specs.Index.{Lists, lists, unchecked, unchecked_words, list_index, listed_word}
+use Rattle.listing.specs.Index.{Lists, lists, unchecked, unchecked_words, listed_word}
 use Rattle.listing.specs.Read.{lists_of, read_tests, Reads}
 use Rattle.listing.proofs.Index.{index-before, is-listed, unchecked-all}
 use Rattle.listing.proofs.Opened as reading

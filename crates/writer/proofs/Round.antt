@@ -19,7 +19,7 @@ use Rattle.refusal.specs.declared.Verdict.{Verdict}
 use Rattle.refusal.specs.declared.Verdict.TheVariants.{Pass}
 use Rattle.refusal.specs.Refusal.{unless}
 use Rattle.util.specs.Words.{word_at}
-use Rattle.hamming.specs.Word.{Said, says, damaged, data_values, encoded, codeword, decoded, said_data, is_said}
+use Rattle.hamming.specs.Word.{says, data_values, encoded, codeword, decoded}
 use Rattle.hamming.proofs.Flips.{clean}
 use Rattle.map.specs.Map.{card_words, image_bytes, checked_words, checked}
 use Rattle.map.proofs.Spans.{unchecked-past}

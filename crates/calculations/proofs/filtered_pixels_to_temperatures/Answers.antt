@@ -1,6 +1,5 @@
 -- `calculations::filtered_pixels_to_temperatures` meets its contract: the filter's average, or the frame's own compensation reading, is passed on.
 -- Assumes nothing.
-use borrow.Author.Rules.{rules}
 use lib.Ieee.{Float}
 use Rattle.frames.specs.declared.Wanted.TheVariants.{Temperature}
 use Rattle.frames.proofs.Calls.{makes-with}

@@ -1,12 +1,9 @@
 -- `calculations::from_pixels` meets its contract: by that of `frames::from_pixels`, with this camera's numbers and tables. Assumes nothing.
-use Prim.Native.Nat.{◌≤◌}
-use borrow.Author.Rules.{rules, length_unmapped}
-use mathlib.Core.Path.{◌≡◌, sym, ap, ◌∙◌}
+use borrow.Author.Rules.{rules}
+use mathlib.Core.Path.{ap, ◌∙◌}
 use native.Mathlib.Omega.{arith}
-use lib.IntN.{ℤ}
-use lib.Ieee.{Float}
-use lib.Dec.{lit<, lit≤}
-use lib.ListN.{length, length-replicate}
+use lib.Dec.{lit≤}
+use lib.ListN.{length}
 use Rattle.eeprom.proofs.Parts.{offsets-long}
 use Rattle.calculations.proofs.Calls.{makes}
 use Rattle.calculations.proofs.from_pixels.Goals as goal
@@ -27,7 +24,7 @@ from_pixels-requires-clause-blocks_bound c =
           record {
             offsets = omega arith;
             k_ta = omega arith;
-            k_v_some = lit< tt;
+            k_v_some = omega arith;
             k_v_few = lit≤ tt;
             k_v = omega arith;
             access_some = omega arith;

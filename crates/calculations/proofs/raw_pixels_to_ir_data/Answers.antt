@@ -1,5 +1,4 @@
 -- `calculations::raw_pixels_to_ir_data` meets its contract: the frame's own compensation reading is passed on. Assumes nothing.
-use borrow.Author.Rules.{rules}
 use lib.Ieee.{Float}
 use Rattle.frames.specs.declared.Wanted.TheVariants.{Infrared}
 use Rattle.frames.proofs.Calls.{makes-with}

@@ -1,5 +1,4 @@
 -- `calibration::read_calibration` meets its contract: it joins the parts of the record. Assumes nothing.
-use borrow.Author.Rules.{rules}
 use lib.Dec.{lit≤}
 use Rattle.util.proofs.Width.{signed_back}
 use Rattle.map.specs.declared.Field.TheVariants.{VDd25, KVDd, OffsetCp}

@@ -1,7 +1,5 @@
 -- `calibration::read_compensation` meets its contract: the cursor is at each word in turn. Assumes nothing.
-use borrow.Author.Rules.{rules}
 use mathlib.Core.Path.{◌≡◌, ap, ◌∙◌}
-use lib.Dec.{lit<}
 use mir.Syntax.{w16}
 use mir.Val.{to_z, of_z}
 use mir.ValLaws.{to_z-of_z}
@@ -22,8 +20,8 @@ returns c =
     let at50 : c.plain-k_v.result ≡ plain_at v 50 = c.plain-k_v.ensures ∙ ap (λ (r : Plain). plain_at v r.next.word) at49 in
     let at51 : c.plain-last.result ≡ plain_at v 51 = c.plain-last.ensures ∙ ap (λ (r : Plain). plain_at v r.next.word) at50 in
     let offset : to_z w16 (of_z w16 c.i16_from_bits.result) ≡ signed 16 (combined (w 47) (w 48)) =
-        to_z-of_z w16 c.i16_from_bits.result (record { sfits = c.i16_from_bits.type_inv }) ∙ c.i16_from_bits.ensures
-        ∙ ap (λ (r : Combined). signed 16 r.value) c.combined-offset.ensures in
+    to_z-of_z w16 c.i16_from_bits.result (record { sfits = c.i16_from_bits.type_inv }) ∙ c.i16_from_bits.ensures
+    ∙ ap (λ (r : Combined). signed 16 r.value) c.combined-offset.ensures in
     rw (
       offset,
       c.low_over.ensures,

@@ -1,7 +1,5 @@
 -- `calibration::read_ptat` meets its contract: the cursor is at each word in turn. Assumes nothing.
-use borrow.Author.Rules.{rules}
 use mathlib.Core.Path.{◌≡◌, ap, ◌∙◌}
-use lib.Dec.{lit<}
 use Rattle.map.proofs.Words.{places}
 use Rattle.card.specs.Inner.{fraction_at, plain_at, scaled_at}
 use Rattle.card.specs.declared.Plain.{Plain}

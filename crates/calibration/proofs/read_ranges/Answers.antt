@@ -1,10 +1,8 @@
 -- `calibration::read_ranges` meets its contract: the cursor is at each word in turn, and each K_sTo is divided by 2 to the power in word 52.
 -- Assumes nothing.
-use borrow.Author.Rules.{rules}
 use mathlib.Core.Path.{◌≡◌, ap, ap₂, ◌∙◌}
 use Prim.Native.Nat.{ℕ, ◌<◌}
 use native.Mathlib.Omega.{arith}
-use lib.Dec.{lit<}
 use lib.IntN.{pos}
 use lib.Signed.{mag}
 use Rattle.util.proofs.Range.{back16}

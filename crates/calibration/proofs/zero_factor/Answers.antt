@@ -1,5 +1,4 @@
 -- `calibration::zero_factor` meets its contract: it reads the ranges and searches them. Assumes nothing.
-use borrow.Author.Rules.{rules}
 use mathlib.Core.Path.{ap, ◌∙◌}
 use Rattle.calibration.specs.declared.Ranges.{Ranges}
 use Rattle.calibration.specs.Coefficients.{zero_factor}

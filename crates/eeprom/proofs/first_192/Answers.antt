@@ -1,5 +1,4 @@
 -- `eeprom::first_192` meets its contract, for a table that is short and for one that is not. Assumes nothing.
-use borrow.Author.Rules.{rules}
 use borrow.Author.Tests.{lt-ltb, le-ltb}
 use Prim.Native.Nat.{◌<◌}
 use native.Mathlib.Omega.{arith}

@@ -1,6 +1,5 @@
 -- `eeprom::gate` meets its contract: each return is one line of the list of tests, and if it passes the words are decoded and the mended ones counted.
 -- Assumes nothing.
-use borrow.Author.Rules.{rules}
 use borrow.Author.Tests.{lt-ltb, le-ltb}
 use mathlib.Core.Path.{◌≡◌, sym, ap, ◌∙◌, subst}
 use mathlib.Core.List.{List}
@@ -9,14 +8,13 @@ use native.Mathlib.Omega.{arith}
 use lib.ListN.{length}
 use Rattle.lists.specs.Written.{filled}
 use Rattle.refusal.specs.declared.Refusal.TheVariants.{ShortImage, ShortTable, DamagedWord}
-use Rattle.refusal.specs.declared.Verdict.{Verdict}
 use Rattle.refusal.specs.declared.Verdict.TheVariants.{Refused}
 use Rattle.refusal.specs.Order.{first_of}
 use Rattle.refusal.proofs.Order.{never}
 use Rattle.util.specs.Words.{word_at}
 use Rattle.hamming.specs.Word.{data_values}
 use Rattle.map.specs.Map.{card_words, image_bytes, frame_pixels}
-use Rattle.card.specs.Card.{data_at, first_damaged, mending_below, mending_of}
+use Rattle.card.specs.Card.{data_at, first_damaged, mending_below}
 use Rattle.card.specs.Inner.{at}
 use Rattle.card.proofs.Data.{data-lt, damaged-within, words_are}
 use Rattle.eeprom.specs.Load.{data_tests, load_tests}

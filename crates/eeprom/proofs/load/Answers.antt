@@ -1,13 +1,10 @@
 -- `eeprom::load` meets its contract: the gate decides, and if it passes the tables are filled from the decoded words. Assumes nothing.
 use borrow.Author.Rules.{rules}
 use mathlib.Core.Path.{◌≡◌, refl, sym, ap, ◌∙◌, subst}
-use mathlib.Core.List.{List}
 use Prim.Native.Nat.{ℕ}
-use Rattle.refusal.specs.declared.Verdict.TheVariants.{Pass}
-use Rattle.card.specs.Card.{data_at}
 use Rattle.card.specs.Inner.{at}
 use Rattle.card.proofs.Data.{words_are}
-use Rattle.eeprom.specs.Load.{Tables, tables, load_verdict}
+use Rattle.eeprom.specs.Load.{tables, load_verdict}
 use Rattle.eeprom.specs.Inner.{Passed}
 use Rattle.eeprom.proofs.Opened.{opened}
 use Rattle.eeprom.proofs.load.Goals as goal

@@ -1,5 +1,4 @@
 -- `eeprom::subpage_offsets` meets its contract, for each subpage. Assumes nothing.
-use borrow.Author.Rules.{rules}
 use Rattle.eeprom.proofs.subpage_offsets.Goals as goal
 
 pub returns-in-Zero : goal.returns-in-Zero

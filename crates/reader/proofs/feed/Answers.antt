@@ -2,10 +2,10 @@
 -- byte is stored any more, the remaining bytes change nothing. Assumes nothing.
 use borrow.Author.Rules.{rules}
 use borrow.Author.Tests.{lt-ltb, le-ltb, le-leb, lt-leb}
-use mathlib.Core.Path.{◌≡◌, refl, sym, ap, ◌∙◌}
-use Prim.Native.Nat.{◌+◌, ◌≤◌, ◌-◌}
+use mathlib.Core.Path.{refl, sym, ap, ◌∙◌}
+use Prim.Native.Nat.{◌+◌}
 use native.Mathlib.Omega.{arith}
-use lib.ListN.{length, drop}
+use lib.ListN.{drop}
 use Rattle.map.specs.Map.{card_words, image_bytes}
 use Rattle.reader.specs.Bytes.{Held, held, one_more, fed}
 use Rattle.reader.proofs.Fold.{one_fewer, none_left}

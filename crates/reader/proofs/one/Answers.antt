@@ -1,7 +1,6 @@
 -- `reader::one` meets its contract: the byte completes a word or does not, and the word is damaged or is not. Assumes nothing.
-use borrow.Author.Rules.{rules}
 use borrow.Author.Tests.{eq-eqb, ne_eqb}
-use mathlib.Core.Path.{◌≡◌, sym, ap, ◌∙◌}
+use mathlib.Core.Path.{sym, ap, ◌∙◌}
 use Rattle.card.specs.declared.Read.{Read}
 use Rattle.reader.specs.Bytes.{completes}
 use Rattle.reader.proofs.one.Goals as goal

@@ -1,5 +1,4 @@
 -- `reader::take_on` meets its contract: short tables are refused, an empty piece changes nothing, otherwise the bytes are taken. Assumes nothing.
-use borrow.Author.Rules.{rules}
 use borrow.Author.Tests.{lt-ltb, le-ltb, eq-eqb, ne_eqb}
 use mathlib.Core.Path.{◌≡◌, refl, ap, ◌∙◌}
 use mathlib.Core.List.{List}

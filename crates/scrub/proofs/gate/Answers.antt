@@ -1,9 +1,7 @@
 -- `scrub::gate` meets its contract: each return is one line of the list of tests. Assumes nothing.
 use borrow.Author.Tests.{lt-ltb, le-ltb}
 use mathlib.Core.Path.{refl}
-use Prim.Native.Nat.{◌<◌, ◌≤◌}
 use Rattle.refusal.specs.Order.{first_of}
-use Rattle.map.specs.Map.{image_bytes, checked_words}
 use Rattle.scrub.specs.Scrub.{scrub_tests}
 use Rattle.scrub.proofs.gate.Goals as goal
 

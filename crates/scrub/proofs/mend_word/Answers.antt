@@ -1,5 +1,4 @@
 -- `scrub::mend_word` meets its contract, for a word that is damaged, mended or neither. Assumes nothing.
-use borrow.Author.Rules.{rules}
 use mathlib.Core.Path.{◌≡◌, sym, ap, ◌∙◌, subst}
 use mathlib.Core.Bool.{Bool, true, false}
 use mathlib.Core.List.{List}

@@ -1,5 +1,4 @@
 -- `scrub::scrub` meets its contract: the gate decides, and if it passes the image is scrubbed. Assumes nothing.
-use borrow.Author.Rules.{rules}
 use mathlib.Core.Path.{refl, sym, ◌∙◌}
 use Rattle.scrub.specs.Scrub.{lent}
 use Rattle.scrub.proofs.Opened.{opened}

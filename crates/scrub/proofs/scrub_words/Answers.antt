@@ -1,11 +1,10 @@
 -- `scrub::scrub_words` meets its contract: it mends and lists word after word. Assumes nothing.
-use mathlib.Core.Path.{◌≡◌, refl, sym, ap, ap₂, ◌∙◌, subst}
-use mathlib.Core.Bool.{Bool}
+use mathlib.Core.Path.{◌≡◌, refl, ap, ap₂, ◌∙◌}
 use mathlib.Core.List.{List}
-use Prim.Native.Nat.{ℕ, ◌+◌, ◌*◌, ◌-◌, ◌≤◌, ◌<◌}
+use Prim.Native.Nat.{ℕ}
 use native.Mathlib.Omega.{arith}
 use lib.ListN.{length}
-use Rattle.map.specs.Map.{card_words, image_bytes, checked_words, checked}
+use Rattle.map.specs.Map.{card_words}
 use Rattle.card.specs.Card.{damaged_at}
 use Rattle.scrub.specs.Scrub.{mended_at, scrubbed, lent, left_of, counts_of}
 use Rattle.scrub.specs.Inner.{found_at, word_mended}
@@ -16,7 +15,6 @@ use Rattle.scrub.proofs.Step.{up_to}
 use Rattle.scrub.proofs.Noted as noted
 use Rattle.scrub.proofs.Noted.{Noted, room}
 use Rattle.scrub.proofs.scrub_words.Goals as goal
-use Rattle.scrub.proofs.scrub_words.Invariants.{Scrubbing}
 
 pub loop-word-init : goal.loop-word-init
 loop-word-init c = record { within = omega arith; bytes = step.start _; first = noted.start _ _; second = noted.start _ _ }

@@ -1,19 +1,11 @@
-use mathlib.Core.Path.{◌≡◌, refl, sym, ap, ap₂, ◌∙◌, subst}
-use mathlib.Core.Bool.{Bool}
+use mathlib.Core.Path.{◌≡◌}
 use mathlib.Core.List.{List}
-use Prim.Native.Nat.{ℕ, ◌+◌, ◌*◌, ◌-◌, ◌≤◌, ◌<◌}
-use native.Mathlib.Omega.{arith}
-use lib.ListN.{length}
-use Rattle.map.specs.Map.{card_words, image_bytes, checked_words, checked}
+use Prim.Native.Nat.{ℕ, ◌-◌, ◌≤◌}
+use Rattle.map.specs.Map.{card_words}
 use Rattle.card.specs.Card.{damaged_at}
-use Rattle.scrub.specs.Scrub.{mended_at, scrubbed, lent, left_of, counts_of}
-use Rattle.scrub.specs.Inner.{word_mended}
-use Rattle.scrub.specs.declared.Found.{Found}
-use Rattle.scrub.proofs.Mended.{same-damaged, same-mended, mended-checked, damaged-checked}
-use Rattle.scrub.proofs.Step as step
+use Rattle.scrub.specs.Scrub.{mended_at}
 use Rattle.scrub.proofs.Step.{up_to}
-use Rattle.scrub.proofs.Noted as noted
-use Rattle.scrub.proofs.Noted.{Noted, room}
+use Rattle.scrub.proofs.Noted.{Noted}
 use Rattle.scrub.proofs.scrub_words.Given as goal
 
 -- the invariant: the words before `word` are mended and listed

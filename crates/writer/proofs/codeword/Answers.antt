@@ -1,5 +1,4 @@
 -- `writer::codeword` meets its contract: data that fit 11 bits are not refused. Assumes nothing.
-use borrow.Author.Rules.{rules}
 use mathlib.Core.Path.{sym, ◌∙◌}
 use Rattle.writer.proofs.Codes.{encode-fits, same_word, no_word}
 use Rattle.writer.proofs.codeword.Goals as goal

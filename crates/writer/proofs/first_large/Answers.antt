@@ -1,15 +1,8 @@
 -- `writer::first_large` meets its contract. In each iteration no entry before the current one is too large. Assumes nothing.
-use mathlib.Core.Path.{◌≡◌, refl, sym, ◌∙◌}
-use mathlib.Core.Bool.{Bool}
-use mathlib.Core.List.{List}
-use Prim.Native.Nat.{ℕ, ◌-◌, ◌≤◌}
+use mathlib.Core.Path.{refl, sym, ◌∙◌}
 use borrow.Author.Tests.{le-leb, lt-leb}
 use native.Mathlib.Omega.{arith}
-use lib.Dec.{leb}
-use lib.ListN.{get_or}
-use Rattle.lists.specs.First.{first_from}
 use Rattle.lists.proofs.First.{found, further, ended}
-use Rattle.hamming.specs.Word.{data_values}
 use Rattle.map.specs.Map.{checked_words}
 use Rattle.writer.specs.Write.{first_large}
 use Rattle.writer.proofs.first_large.Goals as goal

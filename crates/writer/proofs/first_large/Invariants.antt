@@ -1,13 +1,10 @@
-use mathlib.Core.Path.{◌≡◌, refl, sym, ◌∙◌}
+use mathlib.Core.Path.{◌≡◌}
 use mathlib.Core.Bool.{Bool}
 use mathlib.Core.List.{List}
 use Prim.Native.Nat.{ℕ, ◌-◌, ◌≤◌}
-use borrow.Author.Tests.{le-leb, lt-leb}
-use native.Mathlib.Omega.{arith}
 use lib.Dec.{leb}
 use lib.ListN.{get_or}
 use Rattle.lists.specs.First.{first_from}
-use Rattle.lists.proofs.First.{found, further, ended}
 use Rattle.hamming.specs.Word.{data_values}
 use Rattle.map.specs.Map.{checked_words}
 use Rattle.writer.specs.Write.{first_large}

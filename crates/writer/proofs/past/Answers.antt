@@ -1,5 +1,4 @@
 -- `writer::past` meets its contract: a checked word adds one. Assumes nothing.
-use borrow.Author.Rules.{rules}
 use mathlib.Core.Path.{sym, ◌∙◌}
 use native.Mathlib.Omega.{arith}
 use Rattle.listing.proofs.Index.{counted-lt, counted_next}

@@ -1,17 +1,16 @@
 -- `writer::put_words` meets its contract: it writes word after word. Assumes nothing.
-use mathlib.Core.Path.{◌≡◌, sym, subst}
+use mathlib.Core.Path.{sym, subst}
 use mathlib.Core.List.{List}
-use Prim.Native.Nat.{ℕ, ◌+◌, ◌*◌, ◌-◌}
+use Prim.Native.Nat.{ℕ, ◌+◌, ◌*◌}
 use native.Mathlib.Omega.{arith}
 use Rattle.lists.proofs.Fill as fill
 use Rattle.lists.proofs.Fill.{Filling}
-use Rattle.map.specs.Map.{card_words, image_bytes, checked}
-use Rattle.listing.specs.Index.{Lists, lists, list_index}
+use Rattle.map.specs.Map.{image_bytes, checked}
+use Rattle.listing.specs.Index.{lists}
 use Rattle.writer.specs.Write.{word_from, byte_of, image_from}
 use Rattle.listing.proofs.Index.{index-zero}
 use Rattle.writer.proofs.Bytes.{word_more}
 use Rattle.writer.proofs.put_words.Goals as goal
-use Rattle.writer.proofs.put_words.Invariants.{Putting}
 
 pub loop-word-init : goal.loop-word-init
 loop-word-init c = record { put = fill.start _ _ _; counted = sym (index-zero checked) }

@@ -1,14 +1,10 @@
-use mathlib.Core.Path.{◌≡◌, sym, subst}
+use mathlib.Core.Path.{◌≡◌}
 use mathlib.Core.List.{List}
-use Prim.Native.Nat.{ℕ, ◌+◌, ◌*◌, ◌-◌}
-use native.Mathlib.Omega.{arith}
-use Rattle.lists.proofs.Fill as fill
+use Prim.Native.Nat.{ℕ, ◌*◌, ◌-◌}
 use Rattle.lists.proofs.Fill.{Filling}
 use Rattle.map.specs.Map.{card_words, image_bytes, checked}
 use Rattle.listing.specs.Index.{Lists, lists, list_index}
-use Rattle.writer.specs.Write.{word_from, byte_of, image_from}
-use Rattle.listing.proofs.Index.{index-zero}
-use Rattle.writer.proofs.Bytes.{word_more}
+use Rattle.writer.specs.Write.{word_from, byte_of}
 use Rattle.writer.proofs.put_words.Given as goal
 
 -- the invariant: the words before `word` are written, and `before` of them are checked

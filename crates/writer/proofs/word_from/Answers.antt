@@ -1,13 +1,10 @@
 -- `writer::word_from` meets its contract: the word's index is within its list. Assumes nothing.
-use borrow.Author.Rules.{rules}
-use mathlib.Core.Path.{◌≡◌, sym, ap, ◌∙◌}
-use mathlib.Core.Bool.{true, false}
-use Prim.Native.Nat.{ℕ, ◌-◌, ◌<◌}
+use mathlib.Core.Path.{sym, ap, ◌∙◌}
+use Prim.Native.Nat.{ℕ}
 use native.Mathlib.Omega.{arith}
 use lib.ListN.{get_or}
 use Rattle.hamming.specs.Word.{encoded}
-use Rattle.map.specs.Map.{checked_words, checked}
-use Rattle.listing.specs.Index.{lists, unchecked_words}
+use Rattle.listing.specs.Index.{lists}
 use Rattle.writer.proofs.From.{from-checked, from-unchecked}
 use Rattle.listing.proofs.Index.{counted-lt, other-index, in-first, in-second}
 use Rattle.writer.proofs.word_from.Goals as goal

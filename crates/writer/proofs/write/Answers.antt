@@ -1,5 +1,4 @@
 -- `writer::write` meets its contract: the gate decides, and if it passes the words are written. Assumes nothing.
-use borrow.Author.Rules.{rules}
 use mathlib.Core.Path.{refl, sym, ◌∙◌}
 use Rattle.writer.proofs.Opened.{opened}
 use Rattle.writer.proofs.write.Goals as goal

@@ -1,13 +1,9 @@
 -- `writer::write_gate` meets its contract: each return is one line of the list of tests. Assumes nothing.
-use borrow.Author.Rules.{rules}
 use borrow.Author.Tests.{lt-ltb, le-ltb, eq-eqb, ne_eqb}
-use mathlib.Core.Path.{◌≡◌}
 use Prim.Native.Nat.{◌<◌, ◌≤◌}
 use native.Mathlib.Omega.{arith}
-use lib.ListN.{length}
 use Rattle.refusal.specs.Order.{first_of}
-use Rattle.map.specs.Map.{image_bytes, checked_words}
-use Rattle.listing.specs.Index.{unchecked_words}
+use Rattle.map.specs.Map.{checked_words}
 use Rattle.writer.specs.Write.{first_large, write_tests}
 use Rattle.writer.proofs.write_gate.Goals as goal
 

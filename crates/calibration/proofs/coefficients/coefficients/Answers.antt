@@ -1,12 +1,8 @@
 -- `calibration::coefficients::coefficients` meets its contract: it lends two arrays of eight entries to read, and one to fill. Assumes nothing.
-use borrow.Author.Rules.{rules, length_unmapped}
 use mathlib.Core.Path.{◌≡◌, refl, ◌∙◌}
-use mathlib.Core.Bool.{true}
-use mathlib.Core.List.{List, [], ◌∷◌}
-use native.Mathlib.Omega.{arith}
+use mathlib.Core.List.{[], ◌∷◌}
 use Prim.Native.Nat.{ℕ}
-use lib.IntN.{ℤ}
-use lib.ListN.{length, replicate}
+use lib.ListN.{replicate}
 use lib.Ieee.{Float}
 use Rattle.lists.specs.Written.{written, filled}
 use Rattle.calibration.proofs.coefficients.coefficients.Goals as goal

@@ -1,0 +1,31 @@
+-- `capi_reader::loamchalice_reader_take` meets its contract, before the end and after it. Assumes nothing.
+use borrow.Author.Tests.{eq-eqb, ne_eqb}
+use mathlib.Core.Path.{◌≡◌, refl}
+use mathlib.Core.List.{List}
+use Prim.Native.Nat.{ℕ}
+use Rattle.eeprom.specs.Load.{Tables, tables}
+use Rattle.reader.specs.declared.Reading.{Reading}
+use Rattle.reader.specs.declared.Taken as inner
+use Rattle.reader.specs.Calls as calls
+use Rattle.reader.specs.Calls.{takes}
+use Rattle.capi_cards.specs.declared.Load.{Load}
+use Rattle.capi_reader.specs.declared.Reader.{Reader}
+use Rattle.capi_reader.specs.Border.{answer_out, reader_out, reading_in, after, takes_out}
+use Rattle.capi_reader.proofs.loamchalice_reader_take.Goals as goal
+
+module _ (image : List ℕ) (reader : Reader) (piece : List ℕ) (range : ℕ) (t : Tables) where
+  goes_on : {image' : List ℕ} {u : Tables} {given : Reading} {told : inner.Taken} {q : Reader} {a : Load} → reader.ended ≡ 0 → given ≡ reading_in reader.count
+      → calls.after image' u told ≡ takes image given piece range t → q ≡ reader_out told.reading → a ≡ answer_out told.answer
+      → after image' u (record { reader = q; answer = a }) ≡ takes_out image reader piece range t
+  unfolding takes_out
+  goes_on e f g h k = rw (eq-eqb _ 0 e, ← f, ← g, h, k) refl
+
+pub returns-then-reader-eq0 : goal.returns-then-reader-eq0
+returns-then-reader-eq0 c =
+    let a = c.args in
+    goes_on a.image.now a.reader a.piece.now a.basic_range (tables a.offsets0.now a.offsets1.now a.alpha.now a.k_v.now a.k_ta.now)
+    c.if-reader-eq0.true c.reading_at-reading.ensures c.take-taken.ensures c.reader_out.ensures c.answer_out.ensures
+
+pub returns : goal.returns
+unfolding takes_out
+returns c = rw (ne_eqb _ 0 c.if-reader-eq0.false) refl
