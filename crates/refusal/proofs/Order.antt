@@ -4,16 +4,16 @@ use mathlib.Core.Path.{◌≡◌, refl}
 use mathlib.Core.Bool.{Bool, true, false}
 use mathlib.Core.List.{List, [], ◌∷◌, ◌++◌}
 use native.Mathlib.Omega.{arith}
+use Rattle.std.specs.Prelude.{⊤, Result, Ok, Err}
 use Rattle.refusal.specs.declared.Refusal.{Refusal}
-use Rattle.refusal.specs.declared.Verdict.TheVariants.{Pass, Refused}
 use Rattle.refusal.specs.Refusal.{unless}
 use Rattle.refusal.specs.Order.{Test, ◌refuses◌, first_of}
 
-pub never : (refusal : Refusal) → Refused refusal ≡ Pass → ⊥
+pub never : (refusal : Refusal) → ◌≡◌ {A = Result ⊤ Refusal} (Err refusal) (Ok tt) → ⊥
 never refusal e = let z : ◌≡◌ {A = ℕ} 0 1 = cc in omega arith
 
 -- if a list refuses nothing, its first test does not hold and the rest refuse nothing
-pub passed : (holds : Bool) (refusal : Refusal) (rest : List Test) → first_of (holds refuses refusal ∷ rest) ≡ Pass → (holds ≡ false) × (first_of rest ≡ Pass)
+pub passed : (holds : Bool) (refusal : Refusal) (rest : List Test) → first_of (holds refuses refusal ∷ rest) ≡ Ok tt → (holds ≡ false) × (first_of rest ≡ Ok tt)
 unfolding first_of
 passed true refusal rest e = absurd (never refusal e)
 passed false refusal rest e = (refl, e)

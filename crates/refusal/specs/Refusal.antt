@@ -1,10 +1,8 @@
 -- Number, place and value of each refusal, row by row: document 01, "When the gate says stop", document 02 and the MLX90640's paper. Assumes nothing.
-use Rattle.std.specs.Prelude.{ℕ}
+use Rattle.std.specs.Prelude.{ℕ, ⊤, Result, Ok, Err}
 use Rattle.refusal.specs.declared.Told.{Told}
 use Rattle.refusal.specs.declared.Refusal.{Refusal}
 use Rattle.refusal.specs.declared.Refusal.TheVariants.{ShortImage, ListLength, ShortTable, DamagedWord, LargeScale, LargePixel, BasicRange, SupplyRange, ZeroDivisor, DataTooLarge, ListedDataTooLarge, ShortFrame, UncheckedWord, UnorderedCorners, ZeroFactor, PixelNumber}
-use Rattle.refusal.specs.declared.Verdict.{Verdict}
-use Rattle.refusal.specs.declared.Verdict.TheVariants.{Pass, Refused}
 
 -- a status with the three given numbers
 abbrev pub says : ℕ → ℕ → ℕ → Told
@@ -30,11 +28,11 @@ told_of (ZeroFactor range) = says 13 range 0
 told_of (PixelNumber pixel) = says 14 pixel 0
 
 -- the status of a verdict: that of its refusal, or 0, 0, 0 if nothing is refused
-abbrev pub verdict_told : Verdict → Told
-verdict_told Pass = says 0 0 0
-verdict_told (Refused refusal) = told_of refusal
+abbrev pub verdict_told : Result ⊤ Refusal → Told
+verdict_told (Ok _) = says 0 0 0
+verdict_told (Err refusal) = told_of refusal
 
--- `new` if the verdict is `Pass`, `old` if it is a refusal
-abbrev pub unless : {A : Type 0} → Verdict → A → A → A
-unless Pass new old = new
-unless (Refused refusal) new old = old
+-- `new` if nothing is refused, `old` after a refusal
+abbrev pub unless : {A : Type 0} → Result ⊤ Refusal → A → A → A
+unless (Ok _) new old = new
+unless (Err refusal) new old = old

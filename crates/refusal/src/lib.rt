@@ -2,9 +2,9 @@
 #![tactic(auto)]
 
 ghost use Rattle.std.specs.Prelude.{◌≡◌};
-ghost use Rattle.refusal.specs.Refusal.{says, told_of, verdict_told, unless};
+ghost use Rattle.refusal.specs.Refusal.{says, told_of, verdict_told};
 
-#[derive(Clone, Copy)]
+#[derive(Clone, Copy, Debug, PartialEq, Eq)]
 pub enum Refusal {
     // 1: the image is shorter than a card.
     ShortImage { length: usize },
@@ -41,7 +41,7 @@ pub enum Refusal {
 }
 
 // A refusal as three numbers: its number, its place (an index, a length or the offending number) and its value. Place and value are 0 if the refusal has none.
-#[derive(Clone, Copy)]
+#[derive(Clone, Copy, Debug, PartialEq, Eq)]
 pub struct Told {
     pub number: u64,
     pub place: u64,
@@ -84,31 +84,15 @@ impl Refusal {
     }
 }
 
-// The result of a call's tests: all passed, or the refusal of the first that failed.
-#[derive(Clone, Copy)]
-pub enum Verdict {
-    Pass,
-    Refused(Refusal),
-}
+// The outcome of a call's tests: all passed, or the refusal of the first that failed.
+pub type Verdict = Result<(), Refusal>;
 
-impl Verdict {
-    // The number, place and value of the refusal; 0, 0, 0 for `Pass`.
-    pub fn told(self) -> Told
-        ensures { result ≡ verdict_told self }
-    {
-        match self {
-            Verdict::Pass => said(0, 0, 0),
-            Verdict::Refused(refusal) => refusal.told(),
-        }
-    }
-
-    // Returns this refusal, or `after` if this is `Pass`.
-    pub fn then(self, after: Verdict) -> Verdict
-        ensures { result ≡ unless self after self }
-    {
-        match self {
-            Verdict::Pass => after,
-            Verdict::Refused(_) => self,
-        }
+// The number, place and value of the refusal; 0, 0, 0 if there is none.
+pub fn verdict_told(verdict: Verdict) -> Told
+    ensures { result ≡ verdict_told verdict }
+{
+    match verdict {
+        Ok(()) => said(0, 0, 0),
+        Err(refusal) => refusal.told(),
     }
 }
