@@ -1,3 +1,4 @@
 -- Words and their fields, as document 01 reads them.
 pub mod Words
 pub mod Fields
+pub mod Found
