@@ -1,4 +1,4 @@
-// Types that both cameras share: the subpage of a frame, and the gradient.
+// The type that both cameras share: the subpage of a frame.
 #![tactic(auto)]
 
 // Which of the two subpages a frame belongs to. The camera measures them in turn.
@@ -6,11 +6,4 @@
 pub enum Subpage {
     Zero,
     One,
-}
-
-// The temperature gradient coefficient of the compensation pixel, if the card has one. The MLX90641 always has one, even 0.
-#[derive(Clone, Copy)]
-pub enum Gradient {
-    Coefficient(f32),
-    Missing,
 }
