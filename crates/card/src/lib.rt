@@ -176,6 +176,8 @@ pub fn decode(image: &[u8], words: &mut Words) -> Decoded
 {
     let mut mending = no_mending();
     let mut word: usize = 0;
+    // A required form (docs/DECISIONS.md): this loop yields the damaged word's place by break, or 832. So `place` here stays a number; only the struct
+    // below may hold it as an Option.
     let damaged = loop {
         if word == WORDS {
             break WORDS;
