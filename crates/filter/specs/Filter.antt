@@ -1,10 +1,8 @@
 -- Document 02, CR 11: the last 16 raw readings of the compensation pixel, their sum, and the sum divided by 16. Assumes nothing.
-use Rattle.std.specs.Prelude.{ℕ, ◌+◌, ◌%◌, min, ltb, ℤ, pos, negsuc, ◌+ℤ◌, ◌-ℤ◌, get_or, set, replicate, Float}
+use Rattle.std.specs.Prelude.{ℕ, ◌+◌, ◌%◌, min, ltb, ℤ, pos, negsuc, ◌+ℤ◌, ◌-ℤ◌, get_or, set, replicate, Option, None, Some, Float}
 use Rattle.lists.specs.Pick.{pick}
 use Rattle.floats.specs.Floats.{over}
 use Rattle.filter.specs.declared.Filter.{Filter}
-use Rattle.filter.specs.declared.Steadied.{Steadied}
-use Rattle.filter.specs.declared.Steadied.TheVariants.{NotYet, Average}
 
 -- the number of readings in an average
 abbrev pub size : ℕ
@@ -39,6 +37,6 @@ pushed f reading = record {
 abbrev pub sixteenth : ℤ → Float
 sixteenth sum = over sum 4
 
--- what a filter returns: `NotYet` with fewer than 16 readings, or else the average
-unfoldable pub average_of : Filter → Steadied
-average_of f = pick (ltb f.turn size) NotYet (Average (sixteenth (kept f.sum)))
+-- what a filter returns: `None` with fewer than 16 readings, or else the average
+unfoldable pub average_of : Filter → Option Float
+average_of f = pick (ltb f.turn size) None (Some (sixteenth (kept f.sum)))

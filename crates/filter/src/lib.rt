@@ -16,13 +16,6 @@ pub struct Filter {
     pub turn: u8,
 }
 
-// What a filter returns: `NotYet` while it has fewer than 16 readings, then their average.
-#[derive(Clone, Copy)]
-pub enum Steadied {
-    NotYet,
-    Average(f32),
-}
-
 // Returns a filter without readings. To reset a filter, replace it by this one.
 pub fn new() -> Filter
     ensures { result ≡ empty }
@@ -76,12 +69,12 @@ pub fn push(filter: Filter, reading: i16) -> Filter
     }
 }
 
-// Returns the average of the last 16 readings, which is exact, or `NotYet`.
-pub fn average(filter: Filter) -> Steadied
+// Returns the average of the last 16 readings, which is exact, or `None` while there are fewer than 16.
+pub fn average(filter: Filter) -> Option<f32>
     ensures { result ≡ average_of filter }
 {
     if filter.turn < 16 {
-        return Steadied::NotYet;
+        return None;
     }
-    Steadied::Average(kept(filter.sum) as f32 / 16.0)
+    Some(kept(filter.sum) as f32 / 16.0)
 }

@@ -4,6 +4,7 @@ use borrow.Author.Tests.{lt-ltb, le-ltb}
 use mathlib.Core.Path.{◌≡◌, refl, ap, ap₂, ◌∙◌}
 use native.Mathlib.Omega.{arith}
 use Prim.Native.Nat.{◌<◌}
+use Rattle.std.specs.Prelude.{Some}
 use lib.IntN.{ℤ}
 use lib.Signed.{mag}
 use lib.Ieee.{Float, binary32, of_bits}
@@ -13,7 +14,6 @@ use mir.Val.{to_z, of_z}
 use Rattle.floats.specs.Floats.{power_of_two, real, ◌⊘◌}
 use Rattle.floats.proofs.Power.{power-bits}
 use Rattle.util.proofs.Range.{back32}
-use Rattle.filter.specs.declared.Steadied.TheVariants.{Average}
 use Rattle.filter.specs.Filter.{kept, average_of}
 use Rattle.filter.proofs.average.Goals as goal
 
@@ -34,4 +34,4 @@ returns c =
     let s = c in
     let sum : to_z w32 (of_z w32 s.args.filter.sum) ≡ s.args.filter.sum = to_z-of_z {w = w32} (search rules) in
     rw (le-ltb s.args.filter.turn 16 s.if-filter-lt16.false)
-    (ap₂ (λ (z : ℤ) (x : Float). Average (real z ⊘ x)) (back k.result k.ensures.1 ∙ k.ensures.0 ∙ ap kept sum) sixteen)
+    (ap₂ (λ (z : ℤ) (x : Float). Some (real z ⊘ x)) (back k.result k.ensures.1 ∙ k.ensures.0 ∙ ap kept sum) sixteen)
