@@ -4,3 +4,4 @@ pub mod Shift
 pub mod Words
 pub mod Range
 pub mod Or
+pub mod Found
