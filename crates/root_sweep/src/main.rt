@@ -14,6 +14,9 @@ const STDOUT: i32 = 1;
 // The bits of 1.
 const ONE: u32 = 0x3F80_0000;
 
+// The number of numbers in the sample.
+const SAMPLE: u32 = 1048815;
+
 // The number of f32 from 1 up to 16.
 const TO_SIXTEEN: u64 = 0x200_0000;
 
@@ -40,14 +43,6 @@ fn missed(guess: u64, settled: u64) -> u64
     ensures { result ≤ 1 }
 {
     if guess == settled { 0 } else { 1 }
-}
-
-fn apart(a: u64, b: u64) -> u64 {
-    if a < b { b - a } else { a - b }
-}
-
-fn larger(a: u64, b: u64) -> u64 {
-    if a < b { b } else { a }
 }
 
 // Returns the bits of the n-th number of the sample.
@@ -78,24 +73,22 @@ fn look(b: u32) -> Shown
     Shown {
         first: missed(g.first, q),
         second: missed(g.second, p),
-        steps: larger(apart(g.first, q), apart(g.second, p)),
+        steps: g.first.abs_diff(q).max(g.second.abs_diff(p)),
     }
 }
 
 fn sweep() -> Tally {
-    let mut n: u32 = 0;
     let mut first: u64 = 0;
     let mut second: u64 = 0;
     let mut steps: u64 = 0;
-    while n < 1048815 {
-        let l = look(pattern(n));
-        first += l.first;
-        second += l.second;
-        steps = larger(steps, l.steps);
-        n += 1;
+    for n in 0..SAMPLE {
+        let shown = look(pattern(n));
+        first += shown.first;
+        second += shown.second;
+        steps = steps.max(shown.steps);
     }
     Tally {
-        patterns: n as u64,
+        patterns: SAMPLE as u64,
         first,
         second,
         steps,
@@ -107,8 +100,8 @@ fn open_of(first: u32) -> u32
     requires { first < 0x41800000 }
 {
     let mut x = [1.0f32; SIDE];
-    for i in 0..SIDE {
-        x[i] = floats::from_bits(first + i as u32);
+    for (i, number) in x.iter_mut().enumerate() {
+        *number = floats::from_bits(first + i as u32);
     }
     let mut roots = [0.0f32; SIDE];
     roots::guessed(&x, &mut roots)
@@ -117,7 +110,7 @@ fn open_of(first: u32) -> u32
 fn sweep_side_by_side() -> u64 {
     let mut open: u64 = 0;
     for block in 0..BLOCKS {
-        open = std::num::wrapping_add_u64(open, open_of(ONE + block * 32) as u64);
+        open = open.wrapping_add(open_of(ONE + block * 32) as u64);
     }
     open
 }
