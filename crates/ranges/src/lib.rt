@@ -4,6 +4,7 @@
 ghost use Rattle.std.specs.Prelude.{◌≡◌, ◌+◌, ◌<◌, ◌≤◌, length, int_le};
 ghost use Rattle.lists.specs.Written.{filled};
 ghost use Rattle.refusal.specs.Order.{first_of};
+ghost use Rattle.util.specs.Found.{found_below};
 ghost use Rattle.ranges.specs.Corners.{unrisen, corner_tests};
 ghost use Rattle.ranges.specs.Coefficients.{growth, coefficient_at, zero_factor};
 ghost use Rattle.ranges.specs.Inner.{Ranged, Between};
@@ -17,20 +18,17 @@ fn not_above(corner: i16, before: i16) -> bool
     corner <= before
 }
 
-// The index of the first corner that is not above the one before it, or the number of ranges if all rise.
-fn first_unrisen(ranges: usize, corners: &[i16]) -> usize
+// The first corner that is not above the one before it, if there is one.
+fn first_unrisen(ranges: usize, corners: &[i16]) -> Option<usize>
     requires { (0 < ranges) × (ranges ≤ length corners.now) }
-    ensures { result ≡ unrisen ranges corners.now }
+    ensures { result ≡ found_below ranges (unrisen ranges corners.now) }
 {
-    let mut range: usize = 1;
-    while range < ranges {
-        let below = range - 1;
-        if not_above(corners[range], corners[below]) {
-            return range;
+    for range in 1..ranges {
+        if not_above(corners[range], corners[range - 1]) {
+            return Some(range);
         }
-        range += 1;
     }
-    ranges
+    None
 }
 
 // Tests for refusal 12: corners that do not rise strictly.
@@ -38,11 +36,10 @@ pub fn corner_gate(ranges: usize, corners: &[i16]) -> Verdict
     requires { (0 < ranges) × (ranges ≤ length corners.now) }
     ensures { result ≡ first_of (corner_tests ranges corners.now) }
 {
-    let corner = first_unrisen(ranges, corners);
-    if corner < ranges {
-        return Verdict::Refused(Refusal::UnorderedCorners { corner });
+    match first_unrisen(ranges, corners) {
+        Some(corner) => Err(Refusal::UnorderedCorners { corner }),
+        None => Ok(()),
     }
-    Verdict::Pass
 }
 
 // Returns 1 + K × (T next - T own) for a range that has a next one.
@@ -68,13 +65,11 @@ fn upward(
 {
     let last = ranges - 1;
     let mut coefficient = 1.0f32;
-    let mut at = basic_range;
-    while at < last {
+    for at in basic_range..last {
         coefficients[at] = coefficient;
         coefficient = coefficient * growth(corners, k_s_to, at);
-        at += 1;
     }
-    coefficients[at] = coefficient;
+    coefficients[last] = coefficient;
 }
 
 // Writes the coefficients below the basic range, each from the one above it.
@@ -89,9 +84,7 @@ fn downward(
     ensures { Between corners.now k_s_to.now basic_range 0 basic_range coefficients.old coefficients.new }
 {
     let mut coefficient = 1.0f32;
-    let mut at = basic_range;
-    while 0 < at {
-        at -= 1;
+    for at in (0..basic_range).rev() {
         coefficient = coefficient / growth(corners, k_s_to, at);
         coefficients[at] = coefficient;
     }
@@ -112,17 +105,20 @@ pub fn coefficients(
     downward(ranges, corners, k_s_to, basic_range, coefficients);
 }
 
-// The range nearest below the basic range whose coefficient would be divided by a zero, or the number of ranges if there is none.
-pub fn zero_factor(ranges: usize, corners: &[i16], k_s_to: &[f32], basic_range: usize) -> usize
+// The range nearest below the basic range whose coefficient would be divided by a zero, if there is one.
+pub fn zero_factor(
+    ranges: usize,
+    corners: &[i16],
+    k_s_to: &[f32],
+    basic_range: usize,
+) -> Option<usize>
     requires { Ranged ranges basic_range corners.now k_s_to.now }
-    ensures { result ≡ zero_factor ranges corners.now k_s_to.now basic_range }
+    ensures { result ≡ found_below ranges (zero_factor ranges corners.now k_s_to.now basic_range) }
 {
-    let mut at = basic_range;
-    while 0 < at {
-        at -= 1;
+    for at in (0..basic_range).rev() {
         if growth(corners, k_s_to, at) == 0.0 {
-            return at;
+            return Some(at);
         }
     }
-    ranges
+    None
 }

@@ -7,7 +7,7 @@ use Rattle.ranges.proofs.Climb.{none, one_down}
 use Rattle.ranges.proofs.downward.Goals as goal
 
 pub loop-at-init : goal.loop-at-init
-loop-at-init c = (omega arith, sym (at-basic _ _ _), none _ _ _ _ _)
+loop-at-init c = (sym (at-basic _ _ _), none _ _ _ _ _)
 
 pub loop-at-preserved : goal.loop-at-preserved
 loop-at-preserved c =
@@ -15,11 +15,6 @@ loop-at-preserved c =
     let l = c.loop-at in
     let i = l.invariant in
     let q : l.at - 1 + 1 ≡ l.at = omega arith in
-    let e = ap₂ ◌⊘◌ i.1 c.growth-coefficient.ensures ∙ sym (rw q at (next-below a.corners.now a.k_s_to.now a.basic_range (l.at - 1) (omega arith))) in
-    let before = subst (λ (n : ℕ). Between a.corners.now a.k_s_to.now a.basic_range n a.basic_range a.coefficients.now l.coefficients) (sym q) i.2 in
-    (omega arith, e, one_down _ _ _ _ before (omega arith) (omega arith) e)
-
-pub returns : goal.returns
-returns c =
-    let e : c.loop-at.at ≡ 0 = omega arith in
-    rw e at c.loop-at.invariant.2
+    let e = ap₂ ◌⊘◌ i.0 c.growth-coefficient.ensures ∙ sym (rw q at (next-below a.corners.now a.k_s_to.now a.basic_range (l.at - 1) (omega arith))) in
+    let before = subst (λ (n : ℕ). Between a.corners.now a.k_s_to.now a.basic_range n a.basic_range a.coefficients.now l.coefficients) (sym q) i.1 in
+    (e, one_down _ _ _ _ before (omega arith) (omega arith) e)

@@ -4,6 +4,7 @@ use Rattle.std.specs.Prelude.{int_le}
 use Rattle.lists.specs.First.{first_from}
 use Rattle.lists.proofs.First as first
 use Rattle.ranges.specs.Corners.{corner_at, unrisen}
+use Rattle.ranges.proofs.Found.{some_below, none_below}
 use Rattle.ranges.proofs.first_unrisen.Invariants.{stands}
 use Rattle.ranges.proofs.first_unrisen.Goals as goal
 
@@ -12,7 +13,7 @@ unfolding unrisen
 from-1 n corners = refl
 
 pub loop-range-init : goal.loop-range-init
-loop-range-init c = (omega arith, omega arith, from-1 _ _)
+loop-range-init c = from-1 _ _
 
 pub returns-then-not_above : goal.returns-then-not_above
 returns-then-not_above c =
@@ -20,7 +21,7 @@ returns-then-not_above c =
     let own : to_z w16 (of_z w16 (corner_at c.args.corners.now l.range)) ≡ corner_at c.args.corners.now l.range = to_z-of_z {w = w16} (search rules) in
     let before : to_z w16 (of_z w16 (corner_at c.args.corners.now (l.range - 1))) ≡ corner_at c.args.corners.now (l.range - 1) = to_z-of_z {w = w16} (search rules) in
     let t : stands c.args.corners.now l.range ≡ c.not_above.result = sym (c.not_above.ensures ∙ ap₂ int_le own before) in
-    sym (first.found (stands c.args.corners.now) l.range _ (search rules) (t ∙ c.if-not_above.true)) ∙ l.invariant.2
+    some_below _ _ _ (sym l.invariant ∙ first.found (stands c.args.corners.now) l.range _ (search rules) (t ∙ c.if-not_above.true)) (omega arith)
 
 pub loop-range-preserved : goal.loop-range-preserved
 loop-range-preserved c =
@@ -28,11 +29,12 @@ loop-range-preserved c =
     let own : to_z w16 (of_z w16 (corner_at c.args.corners.now l.range)) ≡ corner_at c.args.corners.now l.range = to_z-of_z {w = w16} (search rules) in
     let before : to_z w16 (of_z w16 (corner_at c.args.corners.now (l.range - 1))) ≡ corner_at c.args.corners.now (l.range - 1) = to_z-of_z {w = w16} (search rules) in
     let t : stands c.args.corners.now l.range ≡ c.not_above.result = sym (c.not_above.ensures ∙ ap₂ int_le own before) in
-    (omega arith, omega arith, sym (first.further (stands c.args.corners.now) l.range _ (search rules) (t ∙ c.if-not_above.false)) ∙ l.invariant.2)
+    sym (first.further (stands c.args.corners.now) l.range _ (search rules) (t ∙ c.if-not_above.false)) ∙ l.invariant
 
 pub returns : goal.returns
 returns c =
     let l = c.loop-range in
     let n = c.args.ranges in
-    let e : l.range ≡ n = let h = l.invariant.1 in omega arith in
-    sym (first.ended (stands c.args.corners.now) n) ∙ (rw e at l.invariant.2)
+    let e : l.range ≡ n = omega arith in
+    let end = sym (rw e at l.invariant) ∙ first.ended (stands c.args.corners.now) n in
+    none_below n _ (omega (arith, end))

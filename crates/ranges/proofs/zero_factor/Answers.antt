@@ -5,6 +5,7 @@ use Rattle.lists.specs.Pick.{pick}
 use Rattle.lists.specs.Last.{last_below}
 use Rattle.floats.specs.Floats.{is_zero}
 use Rattle.ranges.specs.Coefficients.{growth, zero_factor}
+use Rattle.ranges.proofs.Found.{some_below, none_below}
 use Rattle.ranges.proofs.zero_factor.Goals as goal
 
 -- the search either finds the range below or goes on from there
@@ -16,15 +17,6 @@ none : (n : ℕ) (t : List ℤ) (k : List Float) → zero_factor n t k 0 ≡ n
 unfolding zero_factor last_below
 none n t k = refl
 
-pub loop-at-init : goal.loop-at-init
-loop-at-init c = (omega arith, refl)
-
-pub overflow_sub-at : goal.overflow_sub-at
-overflow_sub-at c = omega arith
-
-pub growth-requires : goal.growth-requires
-growth-requires c = (omega arith, omega arith)
-
 -- what this iteration finds about the range below
 found : (n : ℕ) (t : List ℤ) (k : List Float) (at m b : ℕ) (g : Float) (o : Bool) → is_zero g ≡ o → g ≡ growth t k m → at ≡ suc m → zero_factor n t k at ≡ zero_factor n t k b
     → pick o m (zero_factor n t k m) ≡ zero_factor n t k b
@@ -34,15 +26,14 @@ found n t k at m b g o e h s i =
     ∙ i
 
 pub returns-then-growth : goal.returns-then-growth
-returns-then-growth c = found _ _ _ c.loop-at.at _ _ _ true c.if-growth.true c.growth.ensures (omega arith) c.loop-at.invariant.1
-
-pub loop-at-smaller : goal.loop-at-smaller
-loop-at-smaller c = omega arith
+returns-then-growth c =
+    some_below _ _ _ (sym (found c.args.ranges _ _ c.loop-at.at _ _ _ true c.if-growth.true c.growth.ensures (omega arith) c.loop-at.invariant)) (omega arith)
 
 pub loop-at-preserved : goal.loop-at-preserved
-loop-at-preserved c = (omega arith, found c.args.ranges _ _ c.loop-at.at _ _ _ false c.if-growth.false c.growth.ensures (omega arith) c.loop-at.invariant.1)
+loop-at-preserved c = found c.args.ranges _ _ c.loop-at.at _ _ _ false c.if-growth.false c.growth.ensures (omega arith) c.loop-at.invariant
 
 pub returns : goal.returns
 returns c =
     let e : c.loop-at.at ≡ 0 = omega arith in
-    sym (none _ _ _) ∙ (rw e at c.loop-at.invariant.1)
+    let none = sym (none _ _ _) ∙ (rw e at c.loop-at.invariant) in
+    none_below _ _ (omega (arith, none))

@@ -1,9 +1,6 @@
-use Rattle.std.proofs.Common.{◌≡◌, ◌≤◌}
+use Rattle.std.proofs.Common.{◌≡◌}
 use Rattle.ranges.specs.Coefficients.{zero_factor}
 use Rattle.ranges.proofs.zero_factor.Given as goal
 
 abbrev pub invariant-loop-at : goal.invariant-loop-at
-invariant-loop-at l = (l.at ≤ l.basic_range) × (zero_factor l.ranges l.corners l.k_s_to l.at ≡ zero_factor l.ranges l.corners l.k_s_to l.basic_range)
-
-abbrev pub decreases-loop-at : goal.decreases-loop-at
-decreases-loop-at l = l.at
+invariant-loop-at l = zero_factor l.ranges l.corners l.k_s_to l.at ≡ zero_factor l.ranges l.corners l.k_s_to l.basic_range
