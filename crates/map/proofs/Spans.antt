@@ -4,12 +4,12 @@ use mathlib.Core.Path.{◌≡◌, refl, sym, ap}
 use mathlib.Core.Bool.{Bool, true, false, ◌&&◌}
 use mathlib.Core.List.{List, [], ◌∷◌}
 use native.Mathlib.Nat.{le_trans, le_refl}
+use Rattle.std.specs.Prelude.{Option, None}
+use Rattle.map.specs.declared.Field.{Field}
 use lib.ListN.{length}
 use lib.Dec.{T, leb, leb→le}
 use borrow.Author.Tests.{lt-ltb, le-ltb}
 use Rattle.lists.proofs.Spans.{Rest, has_all, climb}
-use Rattle.map.specs.declared.Role.{Role}
-use Rattle.map.specs.declared.Role.TheVariants.{Unchecked}
 use Rattle.map.specs.Map.{card_words, Span, upto, lookup, spans, role_of, is_checked, checked}
 
 -- where the k-th span starts, in a map that starts at lo
@@ -25,8 +25,8 @@ end (upto n r ∷ es) zero = n
 end (upto n r ∷ es) (suc k) = end es k
 
 -- the role of the k-th span
-abbrev pub what : List Span → ℕ → Role
-what [] k = Unchecked
+abbrev pub what : List Span → ℕ → Option Field
+what [] k = None
 what (upto n r ∷ es) zero = r
 what (upto n r ∷ es) (suc k) = what es k
 
@@ -54,7 +54,7 @@ at lo (upto n r ∷ es) (suc k) w p a b =
     let q : T (rising n es) = both_right (leb lo n) _ p in
     rw (le-ltb w n (le_trans (low n es k q) a)) (at n es k w q a b)
 
-pub past : (lo : ℕ) (es : List Span) (w : ℕ) → T (rising lo es) → start lo es (length es) ≤ w → Unchecked ≡ lookup es w
+pub past : (lo : ℕ) (es : List Span) (w : ℕ) → T (rising lo es) → start lo es (length es) ≤ w → None ≡ lookup es w
 past lo [] w p a = refl
 past lo (upto n r ∷ es) w p a =
     let q : T (rising n es) = both_right (leb lo n) _ p in
@@ -64,7 +64,7 @@ pub within : (k : ℕ) {w : ℕ} → start 0 spans k ≤ w → w < end spans k �
 unfolding spans role_of
 within k {w} a b = at 0 spans k w tt a b
 
-pub beyond : {w : ℕ} → 832 ≤ w → Unchecked ≡ role_of w
+pub beyond : {w : ℕ} → 832 ≤ w → None ≡ role_of w
 unfolding spans role_of
 beyond {w} a = past 0 spans w tt a
 

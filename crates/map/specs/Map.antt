@@ -1,8 +1,6 @@
 -- Document 01, "The map of 832 words", in reading order: the role of each word, and the words of each field. Assumes nothing.
-use Rattle.std.specs.Prelude.{ℕ, ◌+◌, ◌-◌, Bool, true, false, List, [], ◌∷◌, eqb, ltb}
+use Rattle.std.specs.Prelude.{ℕ, ◌+◌, ◌-◌, Bool, true, false, List, [], ◌∷◌, Option, None, Some, eqb, ltb}
 use Rattle.lists.specs.Pick.{pick}
-use Rattle.map.specs.declared.Role.{Role}
-use Rattle.map.specs.declared.Role.TheVariants.{Unchecked, Holds}
 use Rattle.map.specs.declared.Field.{Field}
 use Rattle.map.specs.declared.Field.TheVariants.{OffsetScale, OffsetAverage, KTaAverage, KTaScale, KVAverage, KVScale, RowScale, RowMaximum, KSTa, Emissivity, Gain, VDd25, KVDd, VPtat25, KTPtat, KVPtat, AlphaPtat, AlphaCp, AlphaCpScale, OffsetCp, KTaCp, KVCp, Gradient, KSToScale, KSTo, Corner, Offset0, Alpha, KPixel, Offset1}
 
@@ -24,63 +22,63 @@ frame_pixels = 192
 
 -- a span: the words from the end of the span before it up to, not including, this number have this role
 pub data Span : Type 0 where
-  upto : ℕ → Role → Span
+  upto : ℕ → Option Field → Span
 
 -- the role of a word: that of the first span whose end is above it; past all spans, unchecked
-abbrev pub lookup : List Span → ℕ → Role
-lookup [] w = Unchecked
+abbrev pub lookup : List Span → ℕ → Option Field
+lookup [] w = None
 lookup (upto n r ∷ es) w = pick (ltb w n) r (lookup es w)
 
 -- the map: each field with the number of the first word after it
 unfoldable pub spans : List Span
 spans =
-    upto 16 Unchecked
-    ∷ upto 17 (Holds OffsetScale)
-    ∷ upto 19 (Holds OffsetAverage)
-    ∷ upto 21 Unchecked
-    ∷ upto 22 (Holds KTaAverage)
-    ∷ upto 23 (Holds KTaScale)
-    ∷ upto 24 (Holds KVAverage)
-    ∷ upto 25 (Holds KVScale)
-    ∷ upto 28 (Holds RowScale)
-    ∷ upto 34 (Holds RowMaximum)
-    ∷ upto 35 (Holds KSTa)
-    ∷ upto 36 (Holds Emissivity)
-    ∷ upto 38 (Holds Gain)
-    ∷ upto 39 (Holds VDd25)
-    ∷ upto 40 (Holds KVDd)
-    ∷ upto 42 (Holds VPtat25)
-    ∷ upto 43 (Holds KTPtat)
-    ∷ upto 44 (Holds KVPtat)
-    ∷ upto 45 (Holds AlphaPtat)
-    ∷ upto 46 (Holds AlphaCp)
-    ∷ upto 47 (Holds AlphaCpScale)
-    ∷ upto 49 (Holds OffsetCp)
-    ∷ upto 50 (Holds KTaCp)
-    ∷ upto 51 (Holds KVCp)
-    ∷ upto 52 (Holds Gradient)
-    ∷ upto 53 (Holds KSToScale)
-    ∷ upto 58 (Holds KSTo)
-    ∷ upto 59 (Holds Corner)
-    ∷ upto 60 (Holds KSTo)
-    ∷ upto 61 (Holds Corner)
-    ∷ upto 62 (Holds KSTo)
-    ∷ upto 63 (Holds Corner)
-    ∷ upto 64 (Holds KSTo)
-    ∷ upto 256 (Holds Offset0)
-    ∷ upto 448 (Holds Alpha)
-    ∷ upto 640 (Holds KPixel)
-    ∷ upto 832 (Holds Offset1)
+    upto 16 None
+    ∷ upto 17 (Some OffsetScale)
+    ∷ upto 19 (Some OffsetAverage)
+    ∷ upto 21 None
+    ∷ upto 22 (Some KTaAverage)
+    ∷ upto 23 (Some KTaScale)
+    ∷ upto 24 (Some KVAverage)
+    ∷ upto 25 (Some KVScale)
+    ∷ upto 28 (Some RowScale)
+    ∷ upto 34 (Some RowMaximum)
+    ∷ upto 35 (Some KSTa)
+    ∷ upto 36 (Some Emissivity)
+    ∷ upto 38 (Some Gain)
+    ∷ upto 39 (Some VDd25)
+    ∷ upto 40 (Some KVDd)
+    ∷ upto 42 (Some VPtat25)
+    ∷ upto 43 (Some KTPtat)
+    ∷ upto 44 (Some KVPtat)
+    ∷ upto 45 (Some AlphaPtat)
+    ∷ upto 46 (Some AlphaCp)
+    ∷ upto 47 (Some AlphaCpScale)
+    ∷ upto 49 (Some OffsetCp)
+    ∷ upto 50 (Some KTaCp)
+    ∷ upto 51 (Some KVCp)
+    ∷ upto 52 (Some Gradient)
+    ∷ upto 53 (Some KSToScale)
+    ∷ upto 58 (Some KSTo)
+    ∷ upto 59 (Some Corner)
+    ∷ upto 60 (Some KSTo)
+    ∷ upto 61 (Some Corner)
+    ∷ upto 62 (Some KSTo)
+    ∷ upto 63 (Some Corner)
+    ∷ upto 64 (Some KSTo)
+    ∷ upto 256 (Some Offset0)
+    ∷ upto 448 (Some Alpha)
+    ∷ upto 640 (Some KPixel)
+    ∷ upto 832 (Some Offset1)
     ∷ []
 
 -- the role of a word by its number
-unfoldable pub role_of : ℕ → Role
+unfoldable pub role_of : ℕ → Option Field
 role_of word = lookup spans word
 
 -- whether words of this role are checked
-abbrev pub is_checked : Role → Bool
-is_checked Unchecked = false
-is_checked (Holds field) = true
+abbrev pub is_checked : Option Field → Bool
+is_checked None = false
+is_checked (Some field) = true
 
 -- whether a word is checked: all are but words 0 to 15, 19 and 20
 unfoldable pub checked : ℕ → Bool
@@ -122,9 +120,9 @@ tag KPixel = 28
 tag Offset1 = 29
 
 -- the number of words of the field in a span from `from` up to n: all n - from if the span is of that field, else 0
-abbrev pub words_of : Field → ℕ → ℕ → Role → ℕ
-words_of field from n Unchecked = 0
-words_of field from n (Holds other) = pick (eqb (tag field) (tag other)) (n - from) 0
+abbrev pub words_of : Field → ℕ → ℕ → Option Field → ℕ
+words_of field from n None = 0
+words_of field from n (Some other) = pick (eqb (tag field) (tag other)) (n - from) 0
 
 -- the number of word k of a field, counted from 0, in spans that start at `from`; 832 if there is no such word
 abbrev pub word_in : List Span → ℕ → Field → ℕ → ℕ

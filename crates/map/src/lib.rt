@@ -58,7 +58,7 @@ pub const K_PIXEL: usize = 448;
 pub const OFFSET_1: usize = 640;
 
 // The fields of a card. Every checked word belongs to one.
-#[derive(Clone, Copy)]
+#[derive(Clone, Copy, Debug, PartialEq, Eq)]
 pub enum Field {
     OffsetScale,
     OffsetAverage,
@@ -92,55 +92,49 @@ pub enum Field {
     Offset1,
 }
 
-// The role of a word: unchecked, or a word of a field.
-#[derive(Clone, Copy)]
-pub enum Role {
-    Unchecked,
-    Holds(Field),
-}
-
-// The role of a word by its number. Numbers from 832 on, which are no words, count as unchecked.
-pub fn role_of(word: usize) -> Role
+// The role of a word by its number: the field that it belongs to, or none if it is unchecked. Numbers from 832 on, which are no words, count as
+// unchecked.
+pub fn role_of(word: usize) -> Option<Field>
     ensures { result ≡ role_of word }
 {
     match word {
-        0..=15 | 19..=20 => Role::Unchecked,
-        16 => Role::Holds(Field::OffsetScale),
-        17..=18 => Role::Holds(Field::OffsetAverage),
-        21 => Role::Holds(Field::KTaAverage),
-        22 => Role::Holds(Field::KTaScale),
-        23 => Role::Holds(Field::KVAverage),
-        24 => Role::Holds(Field::KVScale),
-        25..=27 => Role::Holds(Field::RowScale),
-        28..=33 => Role::Holds(Field::RowMaximum),
-        34 => Role::Holds(Field::KSTa),
-        35 => Role::Holds(Field::Emissivity),
-        36..=37 => Role::Holds(Field::Gain),
-        38 => Role::Holds(Field::VDd25),
-        39 => Role::Holds(Field::KVDd),
-        40..=41 => Role::Holds(Field::VPtat25),
-        42 => Role::Holds(Field::KTPtat),
-        43 => Role::Holds(Field::KVPtat),
-        44 => Role::Holds(Field::AlphaPtat),
-        45 => Role::Holds(Field::AlphaCp),
-        46 => Role::Holds(Field::AlphaCpScale),
-        47..=48 => Role::Holds(Field::OffsetCp),
-        49 => Role::Holds(Field::KTaCp),
-        50 => Role::Holds(Field::KVCp),
-        51 => Role::Holds(Field::Gradient),
-        52 => Role::Holds(Field::KSToScale),
-        53..=57 => Role::Holds(Field::KSTo),
-        58 => Role::Holds(Field::Corner),
-        59 => Role::Holds(Field::KSTo),
-        60 => Role::Holds(Field::Corner),
-        61 => Role::Holds(Field::KSTo),
-        62 => Role::Holds(Field::Corner),
-        63 => Role::Holds(Field::KSTo),
-        64..=255 => Role::Holds(Field::Offset0),
-        256..=447 => Role::Holds(Field::Alpha),
-        448..=639 => Role::Holds(Field::KPixel),
-        640..=831 => Role::Holds(Field::Offset1),
-        _ => Role::Unchecked,
+        0..=15 | 19..=20 => None,
+        16 => Some(Field::OffsetScale),
+        17..=18 => Some(Field::OffsetAverage),
+        21 => Some(Field::KTaAverage),
+        22 => Some(Field::KTaScale),
+        23 => Some(Field::KVAverage),
+        24 => Some(Field::KVScale),
+        25..=27 => Some(Field::RowScale),
+        28..=33 => Some(Field::RowMaximum),
+        34 => Some(Field::KSTa),
+        35 => Some(Field::Emissivity),
+        36..=37 => Some(Field::Gain),
+        38 => Some(Field::VDd25),
+        39 => Some(Field::KVDd),
+        40..=41 => Some(Field::VPtat25),
+        42 => Some(Field::KTPtat),
+        43 => Some(Field::KVPtat),
+        44 => Some(Field::AlphaPtat),
+        45 => Some(Field::AlphaCp),
+        46 => Some(Field::AlphaCpScale),
+        47..=48 => Some(Field::OffsetCp),
+        49 => Some(Field::KTaCp),
+        50 => Some(Field::KVCp),
+        51 => Some(Field::Gradient),
+        52 => Some(Field::KSToScale),
+        53..=57 => Some(Field::KSTo),
+        58 => Some(Field::Corner),
+        59 => Some(Field::KSTo),
+        60 => Some(Field::Corner),
+        61 => Some(Field::KSTo),
+        62 => Some(Field::Corner),
+        63 => Some(Field::KSTo),
+        64..=255 => Some(Field::Offset0),
+        256..=447 => Some(Field::Alpha),
+        448..=639 => Some(Field::KPixel),
+        640..=831 => Some(Field::Offset1),
+        _ => None,
     }
 }
 
@@ -148,9 +142,5 @@ pub fn role_of(word: usize) -> Role
 pub fn is_checked(word: usize) -> bool
     ensures { result ≡ checked word }
 {
-    let role = role_of(word);
-    match role {
-        Role::Unchecked => false,
-        Role::Holds(_) => true,
-    }
+    role_of(word).is_some()
 }
