@@ -1,14 +1,14 @@
 -- What the result of `check` implies about the word, and the bound on data. Callers need nothing else about these definitions.
 -- Assumes nothing.
 use Prim.Native.Nat.{ℕ, ◌<◌}
-use mathlib.Core.Path.{◌≡◌, refl, ap}
+use mathlib.Core.Path.{◌≡◌, refl}
 use mathlib.Core.Bool.{Bool, true, false}
 use native.Mathlib.Nat.{mod-lt}
-use native.Mathlib.Omega.{arith}
 use lib.Dec.{lit<, ltb}
 use Rattle.lists.specs.Pick.{pick}
 use Rattle.hamming.specs.Word.{says, damaged, data_values, data_of, flip, codeword, place, mended, decoded, said_data}
 use Rattle.hamming.specs.Answer.{mended_answer, check_answer, said_of}
+use Rattle.std.specs.Prelude.{Ok}
 use Rattle.hamming.specs.declared.Checked.TheVariants.{Clean}
 
 -- ---- the data in the result of `check` are those that the word decodes to
@@ -17,7 +17,7 @@ placed : (w k : ℕ) (b : Bool) → ltb k 16 ≡ b → said_of (mended_answer w 
 placed w k true e = rw e refl
 placed w k false e = rw e refl
 
-coded : (w k : ℕ) (b : Bool) → said_of (pick b (Clean (data_of w)) (mended_answer w k)) ≡ pick b (says (data_of w)) (mended w k)
+coded : (w k : ℕ) (b : Bool) → said_of (pick b (Ok (Clean (data_of w))) (mended_answer w k)) ≡ pick b (says (data_of w)) (mended w k)
 coded w k true = refl
 coded w k false = placed w k (ltb k 16) refl
 

@@ -10,7 +10,7 @@ use lib.Count.{ones, ones_in, ones_cat}
 use lib.Dec.{eqb}
 use borrow.Author.Tests.{ne_eqb, eqb-true, eqb-false}
 use Rattle.lists.specs.Pick.{pick}
-use Rattle.hamming.specs.Word.{parity, codeword, not_codeword}
+use Rattle.hamming.specs.Word.{parity, not_codeword}
 use Rattle.hamming.specs.Inner.{syndrome_of, odd_byte}
 use Rattle.hamming.proofs.Xor.{bit}
 use Rattle.hamming.proofs.Linear.{in-xor, ones-in, parity-lt}

@@ -9,7 +9,7 @@ use native.Mathlib.Omega.{arith}
 use lib.Bits.{bit_xor, xor_mod, xor_shr, xor_zero_r}
 use lib.Count.{ones_in}
 use lib.Dec.{T, eqb, leb, eqb→eq}
-use borrow.Author.Tests.{lt-ltb, eq-eqb, ne_eqb, eqb-true, eqb-false}
+use borrow.Author.Tests.{eq-eqb, ne_eqb, eqb-true, eqb-false}
 use Rattle.lists.specs.Pick.{pick}
 use Rattle.lists.specs.First.{first_from}
 use Rattle.lists.proofs.Every.{both, both_left, both_right, at, at2}

@@ -1,7 +1,7 @@
 -- Parity is linear: over the exclusive or of two words it is the sum of theirs, modulo 2.
 -- Assumes nothing.
 use mathlib.Core.Path.{◌≡◌, refl, sym, ap, ap₂, ◌∙◌, subst}
-use Prim.Native.Nat.{ℕ, zero, suc, ◌+◌, ◌-◌, ◌/◌, ◌%◌, ◌^◌, ◌<◌}
+use Prim.Native.Nat.{ℕ, zero, suc, ◌+◌, ◌/◌, ◌%◌, ◌^◌, ◌<◌}
 use native.Mathlib.Nat.{mod-lt, zero-lt-suc, add-mod, mod-add-mod, add-mod-mod, pow-suc, div-lt_iff_lt-mul}
 use native.Mathlib.Omega.{arith}
 use lib.Bits.{bit_and, bit_xor, and_mod, xor_mod, and_shr, xor_shr}

@@ -8,20 +8,11 @@ ghost use Rattle.hamming.specs.Answer.{encode_answer, check_answer};
 
 use refusal::Refusal;
 
-// The result of encoding: the codeword, or a refusal.
-#[derive(Clone, Copy)]
-pub enum Encoded {
-    Word(u16),
-    Refused(Refusal),
-}
-
-// The result of checking a word: `Clean` with the data of a codeword, `Mended` with the data and the number (0 to 15) of the one flipped bit,
-// or a refusal of a damaged word.
-#[derive(Clone, Copy)]
+// An accepted word: `Clean` with the data of a codeword, `Mended` with the data and the number (0 to 15) of the one flipped bit.
+#[derive(Clone, Copy, Debug, PartialEq, Eq)]
 pub enum Checked {
     Clean(u16),
     Mended { data: u16, bit: u8 },
-    Refused(Refusal),
 }
 
 // The number of data values: data have 11 bits.
@@ -96,34 +87,34 @@ pub fn not_codeword(high: u8, low: u8) -> u8
 }
 
 // Returns the codeword of the data; data above 2047 are refused.
-pub fn encode(data: u16) -> Encoded
+pub fn encode(data: u16) -> Result<u16, Refusal>
     ensures { result ≡ encode_answer «data» }
 {
     if data < DATA_VALUES {
-        Encoded::Word(with_checks(data))
+        Ok(with_checks(data))
     } else {
-        Encoded::Refused(Refusal::DataTooLarge { data })
+        Err(Refusal::DataTooLarge { data })
     }
 }
 
 // Returns the data of a chip word, as `Clean` for a codeword and as `Mended` if one bit is flipped. A damaged word is refused.
-pub fn check(word: u16) -> Checked
+pub fn check(word: u16) -> Result<Checked, Refusal>
     ensures { result ≡ check_answer word }
 {
     let odd = odd_bytes(word);
     if odd == 0 {
-        return Checked::Clean(word % DATA_VALUES);
+        return Ok(Checked::Clean(word % DATA_VALUES));
     }
     if odd < P4 {
-        return Checked::Refused(Refusal::DamagedWord {
+        return Err(Refusal::DamagedWord {
             word: 0,
             bits: word,
         });
     }
     let value = ((odd * BESIDE) >> 24) % 16;
     let bit = (POINTED >> (value * 4)) % 16;
-    Checked::Mended {
+    Ok(Checked::Mended {
         data: (word ^ (1 << bit)) % DATA_VALUES,
         bit: bit as u8,
-    }
+    })
 }

@@ -1,5 +1,4 @@
 -- `hamming::encode` meets its contract, for data up to 2047 and above. Assumes nothing.
-use borrow.Author.Rules.{rules}
 use borrow.Author.Tests.{lt-ltb, le-ltb}
 use Rattle.hamming.specs.Answer.{encode_answer}
 use Rattle.hamming.proofs.encode.Goals as goal

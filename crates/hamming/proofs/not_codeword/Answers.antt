@@ -1,5 +1,4 @@
 -- `hamming::not_codeword` meets its contract: each odd byte is one of the word's five parities. Assumes nothing.
-use borrow.Author.Rules.{rules}
 use mathlib.Core.Path.{ap₂, ◌∙◌}
 use Prim.Native.Nat.{◌+◌, ◌*◌}
 use native.Mathlib.Omega.{arith}

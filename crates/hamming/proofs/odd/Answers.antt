@@ -1,5 +1,4 @@
 -- `hamming::odd` meets its contract: a number under a mask of 16 bits has all its ones among 16 bits. Assumes nothing.
-use borrow.Author.Rules.{rules}
 use mathlib.Core.Path.{ap}
 use Prim.Native.Nat.{ℕ, ◌%◌}
 use lib.Bits.{bit_and, and_lt}

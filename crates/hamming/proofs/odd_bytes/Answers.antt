@@ -1,5 +1,4 @@
 -- `hamming::odd_bytes` meets its contract: folding computes the five parities. Assumes nothing.
-use borrow.Author.Rules.{rules}
 use Rattle.hamming.proofs.Folds.{folded-is}
 use Rattle.hamming.proofs.odd_bytes.Goals as goal
 

@@ -1,5 +1,4 @@
 -- `hamming::with_checks` meets its contract: each check bit is placed above the others, so OR is addition. Assumes nothing.
-use borrow.Author.Rules.{rules}
 use mathlib.Core.Path.{◌≡◌, ap, ap₂, ◌∙◌}
 use Prim.Native.Nat.{ℕ, ◌*◌, ◌%◌, ◌<◌}
 use lib.Bits.{bit_or}
