@@ -3,20 +3,17 @@ use mathlib.Core.Path.{◌≡◌, refl, subst}
 use lib.Dec.{T}
 use lib.Ieee.{Float, binary32, fits}
 use lib.Ieee.Fits.{add-fits, sub-fits, div-fits}
+use Rattle.std.specs.Prelude.{Option, None, Some}
 use Rattle.formulas.specs.declared.Constants.{Constants}
-use Rattle.camera.specs.declared.Gradient.{Gradient}
-use Rattle.camera.specs.declared.Gradient.TheVariants.{Coefficient, Missing}
 use Rattle.formulas.specs.declared.CommonIrData.{CommonIrData}
 use Rattle.formulas.specs.declared.Settings.{Settings}
-use Rattle.formulas.specs.declared.Deduction.{Deduction}
-use Rattle.formulas.specs.declared.Deduction.TheVariants.{Nothing, Amount}
 use Rattle.formulas.specs.Pixel.{less, plain_of, infrared_of, reflected_of, t_ar_of, sensitivity_of, final_of}
 use Rattle.formulas.specs.Inner.{deducted, deduction_by, compensation_of, alpha_deduction_of, correction_of, common_to_of, lifted_sensitivity, lifted_under, lifted_from, lifted_final}
 
 -- subtracting a gradient's deduction is what `less` does with the gradient
-by-gradient : (gradient : Gradient) (y : Float → Float) (x : Float) → deducted x (deduction_by gradient y) ≡ less gradient y x
-by-gradient (Coefficient g) y x = refl
-by-gradient Missing y x = refl
+by-gradient : (gradient : Option Float) (y : Float → Float) (x : Float) → deducted x (deduction_by gradient y) ≡ less gradient y x
+by-gradient (Some g) y x = refl
+by-gradient None y x = refl
 
 pub infrared : (c : Constants) (common : CommonIrData) (compensation access_cp pixel offset k_v k_ta access : Float)
     → deducted (plain_of common pixel offset k_v k_ta access) (compensation_of c common compensation access_cp) ≡ infrared_of c common compensation access_cp pixel offset k_v k_ta access
@@ -34,10 +31,10 @@ module _ (c : Constants) (settings : Settings) (t_a k : Float) where
 
 -- ---- v and X are binary32
 
-pub deducted-fits : (common : CommonIrData) (pixel offset k_v k_ta access : Float) (by : Deduction) → T (fits binary32 (deducted (plain_of common pixel offset k_v k_ta access) by))
+pub deducted-fits : (common : CommonIrData) (pixel offset k_v k_ta access : Float) (by : Option Float) → T (fits binary32 (deducted (plain_of common pixel offset k_v k_ta access) by))
 unfolding plain_of
-deducted-fits common pixel offset k_v k_ta access Nothing = div-fits binary32 _ _
-deducted-fits common pixel offset k_v k_ta access (Amount y) = sub-fits binary32 _ y
+deducted-fits common pixel offset k_v k_ta access None = div-fits binary32 _ _
+deducted-fits common pixel offset k_v k_ta access (Some y) = sub-fits binary32 _ y
 
 pub infrared-fits : (c : Constants) (common : CommonIrData) (compensation access_cp pixel offset k_v k_ta access : Float)
     → T (fits binary32 (infrared_of c common compensation access_cp pixel offset k_v k_ta access))

@@ -1,37 +1,33 @@
 -- For inner functions only: the values that the code computes once, before its loop over pixels, and the formulas that use them. `proofs/Lifted` proves
 -- that they equal those of Pixel. Assumes nothing.
-use Rattle.std.specs.Prelude.{Float}
+use Rattle.std.specs.Prelude.{Option, None, Some, Float}
 use Rattle.floats.specs.Floats.{◌⊕◌, ◌⊖◌, ◌⊗◌, ◌⊘◌, real}
 use Rattle.floats.specs.Constants.{one, twenty_five, freezing}
 use Rattle.root.specs.Root.{root}
 use Rattle.formulas.specs.declared.Constants.{Constants}
-use Rattle.camera.specs.declared.Gradient.{Gradient}
-use Rattle.camera.specs.declared.Gradient.TheVariants.{Coefficient, Missing}
 use Rattle.formulas.specs.declared.CommonIrData.{CommonIrData}
 use Rattle.formulas.specs.declared.CommonToData.{CommonToData}
 use Rattle.formulas.specs.declared.Settings.{Settings}
-use Rattle.formulas.specs.declared.Deduction.{Deduction}
-use Rattle.formulas.specs.declared.Deduction.TheVariants.{Nothing, Amount}
 use Rattle.formulas.specs.Pixel.{plain_of, cube, fourth, reflected_of, t_ar_of}
 
 -- x minus the deduction, if there is one
-abbrev pub deducted : Float → Deduction → Float
-deducted x Nothing = x
-deducted x (Amount y) = x ⊖ y
+abbrev pub deducted : Float → Option Float → Float
+deducted x None = x
+deducted x (Some y) = x ⊖ y
 
 -- the deduction for a gradient: y of its coefficient, or nothing if there is no gradient
-abbrev pub deduction_by : Gradient → (Float → Float) → Deduction
-deduction_by (Coefficient g) y = Amount (y g)
-deduction_by Missing y = Nothing
+abbrev pub deduction_by : Option Float → (Float → Float) → Option Float
+deduction_by (Some g) y = Some (y g)
+deduction_by None y = None
 
 -- the compensation pixel's deduction from every pixel's infrared value: gradient × (its own infrared value before the gradient)
-unfoldable pub compensation_of : Constants → CommonIrData → Float → Float → Deduction
+unfoldable pub compensation_of : Constants → CommonIrData → Float → Float → Option Float
 compensation_of c common reading access =
     deduction_by c.temperature_gradient_coefficient
     (λ (g : Float). g ⊗ plain_of common reading (real c.offset_reference_cp) c.k_v_cp c.k_ta_cp access)
 
 -- the compensation pixel's deduction from every pixel's sensitivity: alpha_CP × gradient
-unfoldable pub alpha_deduction_of : Constants → Deduction
+unfoldable pub alpha_deduction_of : Constants → Option Float
 alpha_deduction_of c = deduction_by c.temperature_gradient_coefficient (λ (g : Float). c.alpha_cp ⊗ g)
 
 -- the sensitivity's correction by the ambient temperature: 1 + K_sTa × (t_a - 25)

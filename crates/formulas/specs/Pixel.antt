@@ -1,13 +1,11 @@
 -- A pixel's infrared value from its reading, and its temperature from that. Each operator is one f32 step, rounded once. Assumes nothing.
-use Rattle.std.specs.Prelude.{Float}
+use Rattle.std.specs.Prelude.{Option, None, Some, Float}
 use Rattle.std.specs.Float.Ieee.{eq, is_nan}
 use Rattle.lists.specs.Pick.{pick}
 use Rattle.floats.specs.Floats.{◌⊕◌, ◌⊖◌, ◌⊗◌, ◌⊘◌, real}
 use Rattle.floats.specs.Constants.{one, three_point_three, twenty_five, freezing}
 use Rattle.root.specs.Root.{root, celsius}
 use Rattle.formulas.specs.declared.Constants.{Constants}
-use Rattle.camera.specs.declared.Gradient.{Gradient}
-use Rattle.camera.specs.declared.Gradient.TheVariants.{Coefficient, Missing}
 use Rattle.formulas.specs.declared.CommonIrData.{CommonIrData}
 use Rattle.formulas.specs.declared.Range.{Range}
 use Rattle.formulas.specs.declared.Reflected.{Reflected}
@@ -16,9 +14,9 @@ use Rattle.formulas.specs.declared.Pixel.{Pixel}
 use Rattle.formulas.specs.declared.Pixel.TheVariants.{Temperature, Lost}
 
 -- x minus y of the gradient's coefficient; x itself if there is no gradient
-abbrev pub less : Gradient → (Float → Float) → Float → Float
-less (Coefficient g) y x = x ⊖ y g
-less Missing y x = x
+abbrev pub less : Option Float → (Float → Float) → Float → Float
+less (Some g) y x = x ⊖ y g
+less None y x = x
 
 -- ((pixel × gain + access) - (offset × (1 + K_Ta × (t_a - 25))) × (1 + K_V × (supply - 3.3))) / emissivity; the access term is 0 unless the camera
 -- reads in interleave mode

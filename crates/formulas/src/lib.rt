@@ -8,8 +8,6 @@ ghost use Rattle.formulas.specs.Frame.{delta_of, supply_of, denominator_of, art_
 ghost use Rattle.formulas.specs.Pixel.{plain_of, fourth, reflected_of, t_ar_of, ranged_of, decided};
 ghost use Rattle.formulas.specs.Inner.{deducted, compensation_of, alpha_deduction_of, correction_of, common_to_of, lifted_sensitivity, lifted_under, lifted_from};
 
-use camera::Gradient;
-
 // The sensor readings of a frame that are not pixels: the inputs of the supply voltage, the ambient temperature, the gain and the compensation pixel.
 #[derive(Clone, Copy)]
 pub struct RamData {
@@ -35,7 +33,8 @@ pub struct Constants {
     pub offset_reference_cp: i16,
     pub k_v_cp: f32,
     pub k_ta_cp: f32,
-    pub temperature_gradient_coefficient: Gradient,
+    // `None` if there is no gradient.
+    pub temperature_gradient_coefficient: Option<f32>,
 }
 
 // The numbers that the caller chooses for a frame.
@@ -64,17 +63,11 @@ pub enum Reflected {
     Ambient { self_heating: f32 },
 }
 
-// A number to subtract from every pixel's value, or nothing.
-#[derive(Clone, Copy)]
-pub enum Deduction {
-    Nothing,
-    Amount(f32),
-}
-
-// The numbers that all pixels share in the step from infrared to temperature. `slope` is 1 - K_sTo × 273.15.
+// The numbers that all pixels share in the step from infrared to temperature. `alpha_deduction` is subtracted from every pixel's sensitivity, if there is
+// one. `slope` is 1 - K_sTo × 273.15.
 #[derive(Clone, Copy)]
 pub struct CommonToData {
-    pub alpha_deduction: Deduction,
+    pub alpha_deduction: Option<f32>,
     pub correction: f32,
     pub t_ar: f32,
     pub k_s_to: f32,
@@ -89,7 +82,8 @@ pub struct Range {
     pub coefficient: f32,
 }
 
-// The result for one pixel: its temperature, or its infrared value if the temperature is NaN.
+// The result for one pixel: its temperature, or its infrared value if the temperature is NaN. It is no `Result`: both hold a number that the call stores,
+// and a lost pixel is no error of the call.
 #[derive(Clone, Copy)]
 pub enum Pixel {
     Temperature(f32),
@@ -152,13 +146,13 @@ pub fn common_ir_data(constants: Constants, settings: Settings, ram: RamData) ->
     }
 }
 
-// Returns `x` minus the deduction.
-pub fn deduct(x: f32, by: Deduction) -> f32
+// Returns `x` minus the deduction, if there is one.
+pub fn deduct(x: f32, by: Option<f32>) -> f32
     ensures { result ≡ deducted x by }
 {
     match by {
-        Deduction::Nothing => x,
-        Deduction::Amount(y) => x - y,
+        None => x,
+        Some(y) => x - y,
     }
 }
 
@@ -184,12 +178,12 @@ pub fn compensation(
     common: CommonIrData,
     reading: f32,
     access: f32,
-) -> Deduction
+) -> Option<f32>
     ensures { result ≡ compensation_of constants common reading access }
 {
     let gradient = constants.temperature_gradient_coefficient;
     match gradient {
-        Gradient::Coefficient(coefficient) => {
+        Some(coefficient) => {
             let offset = constants.offset_reference_cp as f32;
             let v_ir = per_pixel_v_ir(
                 reading,
@@ -199,9 +193,9 @@ pub fn compensation(
                 constants.k_ta_cp,
                 access,
             );
-            Deduction::Amount(coefficient * v_ir)
+            Some(coefficient * v_ir)
         }
-        Gradient::Missing => Deduction::Nothing,
+        None => None,
     }
 }
 
@@ -242,13 +236,13 @@ pub fn sensitivity_correction_coefficient(constants: Constants, t_a: f32) -> f32
 }
 
 // Returns what the compensation pixel takes off every pixel's sensitivity; nothing if there is no gradient.
-pub fn alpha_deduction(constants: Constants) -> Deduction
+pub fn alpha_deduction(constants: Constants) -> Option<f32>
     ensures { result ≡ alpha_deduction_of constants }
 {
     let gradient = constants.temperature_gradient_coefficient;
     match gradient {
-        Gradient::Coefficient(coefficient) => Deduction::Amount(constants.alpha_cp * coefficient),
-        Gradient::Missing => Deduction::Nothing,
+        Some(coefficient) => Some(constants.alpha_cp * coefficient),
+        None => None,
     }
 }
 

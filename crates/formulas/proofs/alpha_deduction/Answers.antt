@@ -3,10 +3,10 @@ use mathlib.Core.Path.{refl}
 use Rattle.formulas.specs.Inner.{alpha_deduction_of}
 use Rattle.formulas.proofs.alpha_deduction.Goals as goal
 
-pub returns-in-Coefficient : goal.returns-in-Coefficient
+pub returns-in-Some : goal.returns-in-Some
 unfolding alpha_deduction_of
-returns-in-Coefficient c = rw c.in-Coefficient.is refl
+returns-in-Some c = rw c.in-Some.is refl
 
-pub returns-in-Missing : goal.returns-in-Missing
+pub returns-in-None : goal.returns-in-None
 unfolding alpha_deduction_of
-returns-in-Missing c = rw c.in-Missing.is refl
+returns-in-None c = rw c.in-None.is refl

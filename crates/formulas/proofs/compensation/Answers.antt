@@ -7,13 +7,13 @@ use mir.Val.{to_z, of_z}
 use Rattle.formulas.specs.Inner.{compensation_of}
 use Rattle.formulas.proofs.compensation.Goals as goal
 
-pub returns-in-Coefficient : goal.returns-in-Coefficient
+pub returns-in-Some : goal.returns-in-Some
 unfolding compensation_of
-returns-in-Coefficient c =
+returns-in-Some c =
     let o = c.args.constants.offset_reference_cp in
     let e : to_z w16 (of_z w16 o) ≡ o = to_z-of_z {w = w16} (search rules) in
-    rw (c.per_pixel_v_ir-v_ir.ensures, c.in-Coefficient.is, e) refl
+    rw (c.per_pixel_v_ir-v_ir.ensures, c.in-Some.is, e) refl
 
-pub returns-in-Missing : goal.returns-in-Missing
+pub returns-in-None : goal.returns-in-None
 unfolding compensation_of
-returns-in-Missing c = rw c.in-Missing.is
+returns-in-None c = rw c.in-None.is
