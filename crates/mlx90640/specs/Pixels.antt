@@ -1,9 +1,8 @@
 -- The patterns over 32 by 24 pixels, row by row from 0: which entry a pixel takes. Assumes nothing.
-use Rattle.std.specs.Prelude.{ℕ, ◌+◌, ◌*◌, ◌/◌, ◌%◌, Bool, List, [], ◌∷◌, eqb, ltb, get_or}
+use Rattle.std.specs.Prelude.{ℕ, ◌+◌, ◌*◌, ◌/◌, ◌%◌, Bool, List, [], ◌∷◌, eqb, ltb, get_or, Result, Ok, Err}
 use Rattle.lists.specs.Pick.{pick}
+use Rattle.refusal.specs.declared.Refusal.{Refusal}
 use Rattle.refusal.specs.declared.Refusal.TheVariants.{PixelNumber}
-use Rattle.mlx90640.specs.declared.Entry.{Entry}
-use Rattle.mlx90640.specs.declared.Entry.TheVariants.{At, Refused}
 
 abbrev pub width : ℕ
 width = 32
@@ -33,5 +32,5 @@ unfoldable pub chessboard_at : ℕ → ℕ
 chessboard_at pixel = pick (even (column pixel)) (pick (even (row pixel)) 0 1) (pick (even (row pixel)) 2 3)
 
 -- a pixel's entry; a pixel number of 768 or more is refused by 14
-unfoldable pub entry_of : ℕ → ℕ → Entry
-entry_of pixel at = pick (ltb pixel (width * height)) (At at) (Refused (PixelNumber pixel))
+unfoldable pub entry_of : ℕ → ℕ → Result ℕ Refusal
+entry_of pixel at = pick (ltb pixel (width * height)) (Ok at) (Err (PixelNumber pixel))

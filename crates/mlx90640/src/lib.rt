@@ -18,7 +18,7 @@ pub const NUM_PIXELS: usize = WIDTH * HEIGHT;
 
 // A word split into its upper six bits, signed, and its lower ten, unsigned.
 #[repr(C)]
-#[derive(Clone, Copy)]
+#[derive(Clone, Copy, Debug, PartialEq, Eq)]
 pub struct SixTen {
     pub six: i8,
     pub ten: u16,
@@ -30,13 +30,6 @@ pub struct Corrections {
     pub chess_3: f32,
     pub chess_2: f32,
     pub chess_1: f32,
-}
-
-// The index of the pattern entry that a pixel takes, or a refusal.
-#[derive(Clone, Copy)]
-pub enum Entry {
-    At(usize),
-    Refused(Refusal),
 }
 
 // The low `num_bits` bits of a word, at most eight, as a two's complement number.
@@ -124,25 +117,25 @@ pub fn chessboard_at(pixel: usize) -> usize
 }
 
 // Returns `at`, or refusal 14 if there is no such pixel.
-fn checked_entry(pixel: usize, at: usize) -> Entry
+fn checked_entry(pixel: usize, at: usize) -> Result<usize, Refusal>
     ensures { result ≡ entry_of pixel at }
 {
     if pixel < NUM_PIXELS {
-        Entry::At(at)
+        Ok(at)
     } else {
-        Entry::Refused(Refusal::PixelNumber { pixel })
+        Err(Refusal::PixelNumber { pixel })
     }
 }
 
 // Returns the index in the six-entry pattern for a pixel, or refusal 14 if there is no such pixel.
-pub fn interleave_entry(pixel: usize) -> Entry
+pub fn interleave_entry(pixel: usize) -> Result<usize, Refusal>
     ensures { result ≡ entry_of pixel (interleave_at pixel) }
 {
     checked_entry(pixel, interleave_at(pixel))
 }
 
 // Returns the index in the four-entry chessboard for a pixel, or refusal 14 if there is no such pixel.
-pub fn chessboard_entry(pixel: usize) -> Entry
+pub fn chessboard_entry(pixel: usize) -> Result<usize, Refusal>
     ensures { result ≡ entry_of pixel (chessboard_at pixel) }
 {
     checked_entry(pixel, chessboard_at(pixel))
