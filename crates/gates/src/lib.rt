@@ -60,21 +60,21 @@ fn length_gate(lengths: Lengths) -> Verdict
     ensures { result ≡ first_of (length_tests lengths) }
 {
     if lengths.table < lengths.size {
-        return Verdict::Refused(Refusal::ShortTable);
+        return Err(Refusal::ShortTable);
     }
     if lengths.pixels / 2 < lengths.size {
         let length = lengths.pixels;
-        return Verdict::Refused(Refusal::ShortFrame { length });
+        return Err(Refusal::ShortFrame { length });
     }
     if lengths.destination < lengths.size {
         let length = lengths.destination;
-        return Verdict::Refused(Refusal::ShortFrame { length });
+        return Err(Refusal::ShortFrame { length });
     }
     if lengths.mask < lengths.size {
         let length = lengths.mask;
-        return Verdict::Refused(Refusal::ShortFrame { length });
+        return Err(Refusal::ShortFrame { length });
     }
-    Verdict::Pass
+    Ok(())
 }
 
 // Tests for refusal 6: a basic range that the camera does not have.
@@ -82,9 +82,9 @@ fn range_gate(ranges: usize, basic_range: usize) -> Verdict
     ensures { result ≡ first_of (range_tests ranges basic_range) }
 {
     if ranges <= basic_range {
-        return Verdict::Refused(Refusal::BasicRange { range: basic_range });
+        return Err(Refusal::BasicRange { range: basic_range });
     }
-    Verdict::Pass
+    Ok(())
 }
 
 // Tests for refusals 7 and 8 in a call that takes pixel bytes.
@@ -92,15 +92,15 @@ fn reading_gate(constants: Constants, emissivity: f32, ram: RamData) -> Verdict
     ensures { result ≡ first_of (reading_tests constants emissivity ram) }
 {
     if supply_stops(constants, ram) {
-        return Verdict::Refused(Refusal::SupplyRange);
+        return Err(Refusal::SupplyRange);
     }
     if divisor_stops(constants, ram) {
-        return Verdict::Refused(Refusal::ZeroDivisor);
+        return Err(Refusal::ZeroDivisor);
     }
     if emissivity_stops(emissivity) {
-        return Verdict::Refused(Refusal::ZeroDivisor);
+        return Err(Refusal::ZeroDivisor);
     }
-    Verdict::Pass
+    Ok(())
 }
 
 // Tests for refusal 8 by the emissivity alone.
@@ -108,9 +108,9 @@ fn emissivity_gate(emissivity: f32) -> Verdict
     ensures { result ≡ first_of (emissivity_tests emissivity) }
 {
     if emissivity_stops(emissivity) {
-        return Verdict::Refused(Refusal::ZeroDivisor);
+        return Err(Refusal::ZeroDivisor);
     }
-    Verdict::Pass
+    Ok(())
 }
 
 // The first refusal of an infrared call, or a pass: 2, 10, 7, 8.
@@ -122,7 +122,8 @@ pub fn infrared_gate(
 ) -> Verdict
     ensures { result ≡ first_of (infrared_tests constants emissivity ram lengths) }
 {
-    length_gate(lengths).then(reading_gate(constants, emissivity, ram))
+    length_gate(lengths)?;
+    reading_gate(constants, emissivity, ram)
 }
 
 // The first refusal of an infrared-to-temperature call, or a pass: 2, 10, 6, and 8 for the emissivity alone.
@@ -134,7 +135,9 @@ pub fn temperature_gate(
 ) -> Verdict
     ensures { result ≡ first_of (temperature_tests emissivity ranges basic_range lengths) }
 {
-    length_gate(lengths).then(range_gate(ranges, basic_range).then(emissivity_gate(emissivity)))
+    length_gate(lengths)?;
+    range_gate(ranges, basic_range)?;
+    emissivity_gate(emissivity)
 }
 
 // The first refusal of a one-pass call, or a pass: 2, 10, 6, 7, 8.
@@ -148,7 +151,7 @@ pub fn one_pass_gate(
 ) -> Verdict
     ensures { result ≡ first_of (one_pass_tests constants emissivity ram ranges basic_range lengths) }
 {
-    length_gate(lengths).then(range_gate(ranges, basic_range).then(reading_gate(
-        constants, emissivity, ram,
-    )))
+    length_gate(lengths)?;
+    range_gate(ranges, basic_range)?;
+    reading_gate(constants, emissivity, ram)
 }

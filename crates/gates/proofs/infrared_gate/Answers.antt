@@ -1,6 +1,13 @@
 -- `gates::infrared_gate` meets its contract: the lists of tests, one after another. Assumes nothing.
-use Rattle.refusal.proofs.Order.{in-turn}
+use mathlib.Core.Path.{◌∙◌}
+use Rattle.std.proofs.lemmas.Result.{err_from_is_err_and}
+use Rattle.gates.proofs.Turns.{stops, goes_on}
 use Rattle.gates.proofs.infrared_gate.Goals as goal
 
+pub returns-in_err-length_gate : goal.returns-in_err-length_gate
+returns-in_err-length_gate c =
+    let p = err_from_is_err_and c.from_residual.result c.from_residual.ensures.1 in
+    rw (p.1, p.2) (stops _ _ _ _ c.length_gate.ensures c.in_err-length_gate.was)
+
 pub returns : goal.returns
-returns c = rw (c.then.ensures, c.length_gate.ensures, c.reading_gate.ensures) (in-turn _ _)
+returns c = c.reading_gate.ensures ∙ goes_on _ _ _ _ c.length_gate.ensures c.in_ok-length_gate.was

@@ -1,15 +1,18 @@
 -- `gates::one_pass_gate` meets its contract: the lists of tests, one after another. Assumes nothing.
-use Rattle.refusal.proofs.Order.{in-turn}
+use mathlib.Core.Path.{◌∙◌}
+use Rattle.std.proofs.lemmas.Result.{err_from_is_err_and}
+use Rattle.gates.proofs.Turns.{stops, goes_on}
 use Rattle.gates.proofs.one_pass_gate.Goals as goal
 
+pub returns-in_err-length_gate : goal.returns-in_err-length_gate
+returns-in_err-length_gate c =
+    let p = err_from_is_err_and c.from_residual.result c.from_residual.ensures.1 in
+    rw (p.1, p.2) (stops _ _ _ _ c.length_gate.ensures c.in_err-length_gate.was)
+
+pub returns-in_err-range_gate : goal.returns-in_err-range_gate
+returns-in_err-range_gate c =
+    let p = err_from_is_err_and c.from_residual-in_err-range_gate.result c.from_residual-in_err-range_gate.ensures.1 in
+    rw (p.1, p.2) (stops _ _ _ _ c.range_gate.ensures c.in_err-range_gate.was ∙ goes_on _ _ _ _ c.length_gate.ensures c.in_ok-length_gate.was)
+
 pub returns : goal.returns
-returns c =
-    let t = c in
-    rw (
-      c.then-2.ensures,
-      t.then.ensures,
-      t.reading_gate.ensures,
-      t.range_gate.ensures,
-      t.length_gate.ensures,
-      in-turn,
-    ) (in-turn _ _)
+returns c = c.reading_gate.ensures ∙ goes_on _ _ _ _ c.range_gate.ensures c.in_ok-range_gate.was ∙ goes_on _ _ _ _ c.length_gate.ensures c.in_ok-length_gate.was
