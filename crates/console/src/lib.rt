@@ -1,87 +1,114 @@
-// What the programs share: fields of a line on standard output, the test for failed input, and the last line on standard error, which says how the program
-// ended. If standard error is empty, it succeeded; tools/run turns that line into an exit status.
+// What the programs share: standard output and standard error as writers of text, the tests for failed input, and the last line on standard error, which says
+// how the program ended. If standard error is empty, it succeeded; tools/run turns that line into an exit status.
 #![tactic(auto)]
 
-use refusal::{Told, Verdict};
+use refusal::Refusal;
+use std::fmt;
+use std::fmt::Write;
 use std::io::{Read, Stdin};
 
 // The file descriptors of the three standard streams.
 pub const STDIN: i32 = 0;
 
-pub const STDOUT: i32 = 1;
+const STDOUT: i32 = 1;
 
-pub const STDERR: i32 = 2;
+const STDERR: i32 = 2;
 
-// Writes text to standard output; returns false if that failed.
-pub fn put(text: &[u8]) -> bool {
-    io::write_all(STDOUT, text)
-}
-
-// Writes a tab and a number to standard output; returns false if that failed.
-pub fn tab_number(n: u64) -> bool {
-    put(b"\t") && io::print_decimal(STDOUT, n)
-}
-
-// Writes text to standard error.
-pub fn say(text: &[u8]) {
-    io::write_all(STDERR, text);
-}
-
-// Writes a blank and a number to standard error.
-pub fn say_number(n: u64) {
-    say(b" ");
-    io::print_decimal(STDERR, n);
-}
-
-// Writes the last line of a program whose input is refused.
-pub fn refused(told: Told) {
-    say(b"refused");
-    say_number(told.number);
-    say_number(told.place);
-    say_number(told.value);
-    say(b"\n");
-}
-
-// Writes the last line of a program that could not read its input.
-pub fn failed_reading() {
-    say(b"failed: reading\n");
-}
-
-// Writes the last line of a program that could not write its output.
-pub fn failed_writing() {
-    say(b"failed: writing\n");
-}
-
-// Writes the last line of a program whose input is longer than its buffer.
-pub fn failed_longer() {
-    say(b"failed: more than 65,536 bytes\n");
-}
-
-// Writes the last line, if there is one: failed writing, or the refusal.
-pub fn went(written: bool, verdict: Verdict) {
-    if !written {
-        failed_writing();
-        return;
+fn write_to(stream: i32, text: &[u8]) -> fmt::Result {
+    if io::write_all(stream, text) {
+        Ok(())
+    } else {
+        Err(fmt::Error)
     }
-    let Verdict::Pass = verdict else {
-        refused(verdict.told());
-        return;
-    };
+}
+
+// Standard output, without a buffer.
+#[derive(Clone, Copy)]
+pub struct Output;
+
+impl Write for Output {
+    fn write_str(&mut self, text: &str) -> fmt::Result {
+        write_to(STDOUT, text.as_bytes())
+    }
+}
+
+// Standard error, without a buffer.
+#[derive(Clone, Copy)]
+pub struct Errors;
+
+impl Write for Errors {
+    fn write_str(&mut self, text: &str) -> fmt::Result {
+        write_to(STDERR, text.as_bytes())
+    }
+}
+
+// Writes bytes that need not be text to standard output.
+pub fn put(bytes: &[u8]) -> fmt::Result {
+    write_to(STDOUT, bytes)
+}
+
+// Writes a line to standard error. That this failed could be told nowhere.
+pub fn say<D: fmt::Display + Drop>(line: D) {
+    let _ = Errors.writeln(line);
+}
+
+// Why a program ends without success.
+#[derive(Clone, Copy, Debug, PartialEq, Eq)]
+pub enum Failure {
+    // Its input is refused.
+    Refused(Refusal),
+    // It could not read its input.
+    Reading,
+    // It could not write its output.
+    Writing,
+    // Its input is longer than its buffer.
+    Longer,
+}
+
+impl From<Refusal> for Failure {
+    fn from(refusal: Refusal) -> Failure {
+        Failure::Refused(refusal)
+    }
+}
+
+impl From<fmt::Error> for Failure {
+    fn from(_error: fmt::Error) -> Failure {
+        Failure::Writing
+    }
+}
+
+impl fmt::Display for Failure {
+    fn fmt<W: fmt::Write>(&self, f: &mut fmt::Formatter<W>) -> fmt::Result {
+        match self {
+            Failure::Refused(refusal) => {
+                let told = refusal.told();
+                write!(f, "refused {} {} {}", told.number, told.place, told.value)
+            }
+            Failure::Reading => f.write_str("failed: reading"),
+            Failure::Writing => f.write_str("failed: writing"),
+            Failure::Longer => f.write_str("failed: more than 65,536 bytes"),
+        }
+    }
+}
+
+// Writes the last line of a program, if it failed.
+pub fn end(outcome: Result<(), Failure>) {
+    if let Err(failure) = outcome {
+        say(failure);
+    }
 }
 
 // Whether the input has ended without a failure. It reads without a buffer, as `io::read_full` does, and so takes one byte at most.
 pub fn ended(mut input: Stdin) -> bool {
     let mut more = [0u8; 1];
-    match input.read(&mut more) {
-        Ok(n) => n == 0,
-        Err(_) => false,
-    }
+    matches!(input.read(&mut more), Ok(0))
 }
 
-// Whether the wanted number of bytes was read, or the whole input if it is shorter. False if reading failed.
-pub fn whole(input: Stdin, count: usize, wanted: usize) -> bool {
-    if wanted <= count {
-        return true;
+// Whether the wanted number of bytes was read, or the whole input if it is shorter.
+pub fn whole(input: Stdin, count: usize, wanted: usize) -> Result<(), Failure> {
+    if wanted <= count || ended(input) {
+        Ok(())
+    } else {
+        Err(Failure::Reading)
     }
-    ended(input)
 }
