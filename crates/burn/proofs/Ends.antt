@@ -8,13 +8,13 @@ use lib.Dec.{eqb, leb}
 use lib.ListN.{length, get_or, set, take, drop, length-drop, take-append-drop}
 use lib.Seq.{ext_get_or, get_or-take, length-take-le, drop-set-lt}
 use borrow.Author.Tests.{eqb-true, eqb-false, eq-eqb, leb-true, leb-false, le-leb, not-false}
+use Rattle.std.specs.Prelude.{Option, Some, None, Result, Ok, Err}
+use Rattle.refusal.specs.declared.Refusal.{Refusal}
 use Rattle.lists.specs.Pick.{pick}
 use Rattle.lists.proofs.First.{is-first}
-use Rattle.refusal.specs.declared.Verdict.TheVariants.{Pass}
 use Rattle.util.specs.Words.{word_at}
 use Rattle.map.specs.Map.{card_words, image_bytes}
-use Rattle.burn.specs.declared.Next.{Next}
-use Rattle.burn.specs.declared.Next.TheVariants.{Stopped, Reached, Due}
+use Rattle.burn.specs.declared.Step.{Step}
 use Rattle.burn.specs.Burn.{differ_at, first_differ, reached, burn_verdict, next_value, next_of, word_set, leaves}
 use Rattle.burn.specs.Plan.{plan, called}
 use Rattle.burn.specs.Runs.{Bytes, burnt_to, Ends}
@@ -47,10 +47,10 @@ module _ (p : List ℕ) (w v : ℕ) (b : Bytes p) (h : w * 2 + 1 < length p) (l 
   set-bytes : Bytes (word_set p w v)
   set-bytes i = set-byte i (eqb i (w * 2)) (eqb i (w * 2 + 1)) refl refl
 
-bytes-by : (p q : List ℕ) (n : Next) → next_of p q ≡ n → Bytes p → Bytes q → Bytes (leaves n p)
-bytes-by p q (Stopped refusal) e b c = b
-bytes-by p q Reached e b c = b
-bytes-by p q (Due s) e b c =
+bytes-by : (p q : List ℕ) (n : Result (Option Step) Refusal) → next_of p q ≡ n → Bytes p → Bytes q → Bytes (leaves n p)
+bytes-by p q (Err refusal) e b c = b
+bytes-by p q (Ok None) e b c = b
+bytes-by p q (Ok (Some s)) e b c =
     let d = due p q s e in
     let l = d.passed.here in
     let h = d.within in
@@ -69,10 +69,10 @@ past-set p w v h =
     drop-set-lt image_bytes (set p (w * 2) (v / 256)) (w * 2 + 1) (v % 256) (omega arith)
     ∙ drop-set-lt image_bytes p (w * 2) (v / 256) (omega arith)
 
-past_by : (p q : List ℕ) (n : Next) → next_of p q ≡ n → drop image_bytes (leaves n p) ≡ drop image_bytes p
-past_by p q (Stopped refusal) e = refl
-past_by p q Reached e = refl
-past_by p q (Due s) e = past-set p s.word s.value (due p q s e).within
+past_by : (p q : List ℕ) (n : Result (Option Step) Refusal) → next_of p q ≡ n → drop image_bytes (leaves n p) ≡ drop image_bytes p
+past_by p q (Err refusal) e = refl
+past_by p q (Ok None) e = refl
+past_by p q (Ok (Some s)) e = past-set p s.word s.value (due p q s e).within
 
 pub run_past : (k : ℕ) (p q : List ℕ) → drop image_bytes (called k p q) ≡ drop image_bytes p
 unfolding called
@@ -136,17 +136,17 @@ module _ (p q : List ℕ) (h : image_bytes ≤ length p) (m : image_bytes ≤ le
 -- ---- the claim
 
 module _ (q : List ℕ) (c : Bytes q) where
-  there-if : (k : ℕ) (p : List ℕ) → Bytes p → burn_verdict p q ≡ Pass → reached (called k p q) q ≡ true → take image_bytes (called k p q) ≡ take image_bytes q
+  there-if : (k : ℕ) (p : List ℕ) → Bytes p → burn_verdict p q ≡ Ok tt → reached (called k p q) q ≡ true → take image_bytes (called k p q) ≡ take image_bytes q
   there-if k p b o r =
       let l = opened p q o in
       reached-same (called k p q) q (rw (run_length k p q) l.here) l.there (run-bytes k p q b c) c r
 
-  ends_there : (k : ℕ) (p : List ℕ) → Bytes p → burn_verdict p q ≡ Pass → length (plan p q) ≤ k → called k p q ≡ burnt_to p q
+  ends_there : (k : ℕ) (p : List ℕ) → Bytes p → burn_verdict p q ≡ Ok tt → length (plan p q) ≤ k → called k p q ≡ burnt_to p q
   ends_there k p b o h =
       sym (take-append-drop image_bytes (called k p q))
       ∙ ap₂ (λ (x y : List ℕ). x ++ y) (there-if k p b o ((runs p q o k).reaches_at ∙ le-leb _ _ h)) (run_past k p q)
 
-  pub ends : (p : List ℕ) → Bytes p → burn_verdict p q ≡ Pass → Ends p q
+  pub ends : (p : List ℕ) → Bytes p → burn_verdict p q ≡ Ok tt → Ends p q
   ends p b o = record {
     two_a_word = plan-two p q;
     at_most = plan-most p q (opened p q o);

@@ -7,12 +7,11 @@ use native.Mathlib.Omega.{arith}
 use lib.Dec.{eqb, leb}
 use lib.ListN.{drop}
 use borrow.Author.Tests.{eqb-true, eqb-false, leb-true, leb-false}
+use Rattle.std.specs.Prelude.{Option, Some, None, Result, Ok, Err}
+use Rattle.refusal.specs.declared.Refusal.{Refusal}
 use Rattle.lists.proofs.First.{is-first, first-same}
-use Rattle.refusal.specs.declared.Verdict.TheVariants.{Pass}
 use Rattle.map.specs.Map.{card_words, checked}
 use Rattle.burn.specs.declared.Step.{Step}
-use Rattle.burn.specs.declared.Next.{Next}
-use Rattle.burn.specs.declared.Next.TheVariants.{Stopped, Reached, Due}
 use Rattle.burn.specs.Burn.{differ_at, unchecked_at, first_differ, first_unchecked, reached, burn_tests, burn_verdict, next_value, next_of, done, leaves}
 use Rattle.burn.specs.Plan.{sets, plan}
 use Rattle.burn.specs.Inner.{IsDue}
@@ -21,9 +20,9 @@ use Rattle.burn.proofs.Words.{length-word}
 use Rattle.burn.proofs.Steps.{differ-other, no-plan, plan-first}
 
 -- what is next by a plan
-abbrev pub headed : List Step → Next
-headed [] = Reached
-headed (s ∷ rest) = Due s
+abbrev pub headed : List Step → Result (Option Step) Refusal
+headed [] = Ok None
+headed (s ∷ rest) = Ok (Some s)
 
 abbrev pub is_done : List Step → Bool
 is_done [] = true
@@ -74,19 +73,19 @@ module _ (p q : List ℕ) (s : Step) (d : IsDue p q s) where
   verdict-same = rw (first-unchecked-same, length-word p s.word s.value) refl
 
 -- a call stops nothing that went on, and lets nothing go on that was stopped
-verdict-by : (p q : List ℕ) (n : Next) → next_of p q ≡ n → burn_verdict (leaves n p) q ≡ burn_verdict p q
-verdict-by p q (Stopped refusal) e = refl
-verdict-by p q Reached e = refl
-verdict-by p q (Due s) e = verdict-same p q s (due p q s e)
+verdict-by : (p q : List ℕ) (n : Result (Option Step) Refusal) → next_of p q ≡ n → burn_verdict (leaves n p) q ≡ burn_verdict p q
+verdict-by p q (Err refusal) e = refl
+verdict-by p q (Ok None) e = refl
+verdict-by p q (Ok (Some s)) e = verdict-same p q s (due p q s e)
 
 pub verdict-stays : (p q : List ℕ) → burn_verdict (leaves (next_of p q) p) q ≡ burn_verdict p q
 verdict-stays p q = verdict-by p q (next_of p q) refl
 
 -- images that nothing stops, by whether a word differs
-module _ (p q : List ℕ) (o : burn_verdict p q ≡ Pass) where
+module _ (p q : List ℕ) (o : burn_verdict p q ≡ Ok tt) where
   module _ (h : card_words ≤ first_differ p q) where
-    none-next : next_of p q ≡ Reached
-    none-next = goes_on p q o ∙ none-due p q h
+    none-next : next_of p q ≡ Ok None
+    none-next = goes_on p q o ∙ ap (λ (o : Option Step). Ok o) (none-due p q h)
 
     none-planned : plan p q ≡ []
     none-planned = no-plan card_words p q (λ v k. (is-first (differ_at p q) 0 card_words).before v (omega arith) (omega arith))
@@ -95,8 +94,8 @@ module _ (p q : List ℕ) (o : burn_verdict p q ≡ Pass) where
   step = sets (first_differ p q) (next_value p q (first_differ p q))
 
   module _ (h : first_differ p q < card_words) where
-    due-next : next_of p q ≡ Due step
-    due-next = goes_on p q o ∙ sym (is-due p q refl refl h)
+    due-next : next_of p q ≡ Ok (Some step)
+    due-next = goes_on p q o ∙ ap (λ (o : Option Step). Ok o) (sym (is-due p q refl refl h))
 
     due-planned : plan p q ≡ step ∷ plan (done p step) q
     due-planned =
@@ -110,7 +109,7 @@ module _ (p q : List ℕ) (o : burn_verdict p q ≡ Pass) where
 
   tail-by : (t : Bool) → leb card_words (first_differ p q) ≡ t → plan (leaves (next_of p q) p) q ≡ drop 1 (plan p q)
   tail-by true e = let h = leb-true _ _ e in rw (none-next h, none-planned h) refl
-  tail-by false e = let h = leb-false _ _ e in ap (λ (n : Next). plan (leaves n p) q) (due-next h) ∙ sym (ap (λ (l : List Step). drop 1 l) (due-planned h))
+  tail-by false e = let h = leb-false _ _ e in ap (λ (n : Result (Option Step) Refusal). plan (leaves n p) q) (due-next h) ∙ sym (ap (λ (l : List Step). drop 1 l) (due-planned h))
 
   done-by : (t : Bool) → leb card_words (first_differ p q) ≡ t → t ≡ is_done (plan p q)
   done-by true e = rw (none-planned (leb-true _ _ e)) refl

@@ -1,5 +1,5 @@
 -- What any number of calls do and tell: the claim of specs/Runs. Assumes nothing.
-use Prim.Native.Nat.{ℕ, zero, suc, ◌+◌, ◌<◌, ◌≤◌}
+use Prim.Native.Nat.{ℕ, zero, suc, ◌<◌, ◌≤◌}
 use mathlib.Core.Path.{◌≡◌, refl, sym, ap, ◌∙◌}
 use mathlib.Core.Bool.{Bool, true, false}
 use mathlib.Core.List.{List, [], ◌∷◌, ◌++◌}
@@ -9,11 +9,10 @@ use lib.Dec.{eqb, leb}
 use lib.ListN.{length, drop}
 use lib.Seq.{drop-drop}
 use borrow.Author.Tests.{eqb-true, eqb-false, leb-true, leb-false, le-leb, lt-leb}
+use Rattle.std.specs.Prelude.{Option, Some, None, Result, Ok, Err}
+use Rattle.refusal.specs.declared.Refusal.{Refusal}
 use Rattle.lists.specs.All.{All, none, ◌also◌}
-use Rattle.refusal.specs.declared.Verdict.TheVariants.{Pass}
 use Rattle.burn.specs.declared.Step.{Step}
-use Rattle.burn.specs.declared.Next.{Next}
-use Rattle.burn.specs.declared.Next.TheVariants.{Stopped, Reached, Due}
 use Rattle.burn.specs.Burn.{differ_at, burn_verdict, next_of, done, leaves, reaches}
 use Rattle.burn.specs.Plan.{plan, called, step_in, answered}
 use Rattle.burn.specs.Inner.{IsDue}
@@ -36,10 +35,10 @@ done_at (suc k) [] = sym (le-leb 0 (suc k) (omega arith))
 done_at (suc k) (s ∷ rest) = done_at k rest ∙ more (length rest) k (leb (length rest) k) refl
 
 -- the answer of a call from what is found
-tells-by : (q : List ℕ) (l : List Step) (p : List ℕ) → burn_verdict p q ≡ Pass → plan p q ≡ l → reaches (next_of p q) p q ≡ is_done (drop 1 l)
-tells-by q [] p o e = ap (λ (n : Next). reaches n p q) (at-end q p o e)
+tells-by : (q : List ℕ) (l : List Step) (p : List ℕ) → burn_verdict p q ≡ Ok tt → plan p q ≡ l → reaches (next_of p q) p q ≡ is_done (drop 1 l)
+tells-by q [] p o e = ap (λ (n : Result (Option Step) Refusal). reaches n p q) (at-end q p o e)
 tells-by q (s ∷ rest) p o e =
-    ap (λ (n : Next). reaches n p q) (at-step q p s rest o e)
+    ap (λ (n : Result (Option Step) Refusal). reaches n p q) (at-step q p s rest o e)
     ∙ reached-is (done p s) q (on q p s rest o e)
     ∙ ap is_done (left q p s rest o e)
 
@@ -61,10 +60,10 @@ all_from : {P Q : Step → Type 0} → ((x : Step) → P x → Q x) → (l : Lis
 all_from f [] none = none
 all_from f (a ∷ rest) (h also t) = f a h also all_from f rest t
 
-differed-by : (p q : List ℕ) (n : Next) (l : List Step) → next_of p q ≡ n → All (Differed (leaves n p) q) l → All (Differed p q) (step_in n ++ l)
-differed-by p q (Stopped refusal) l e a = a
-differed-by p q Reached l e a = a
-differed-by p q (Due s) l e a = let d = due p q s e in differed-now p q s d also all_from (differed-before p q s d) l a
+differed-by : (p q : List ℕ) (n : Result (Option Step) Refusal) (l : List Step) → next_of p q ≡ n → All (Differed (leaves n p) q) l → All (Differed p q) (step_in n ++ l)
+differed-by p q (Err refusal) l e a = a
+differed-by p q (Ok None) l e a = a
+differed-by p q (Ok (Some s)) l e a = let d = due p q s e in differed-now p q s d also all_from (differed-before p q s d) l a
 
 pub run-differed : (k : ℕ) (p q : List ℕ) → All (Differed p q) (answered k p q)
 unfolding answered
@@ -73,7 +72,7 @@ run-differed (suc k) p q = differed-by p q (next_of p q) (answered k (leaves (ne
 
 -- ---- the claim
 
-pub runs : (p q : List ℕ) → burn_verdict p q ≡ Pass → (k : ℕ) → Runs p q k
+pub runs : (p q : List ℕ) → burn_verdict p q ≡ Ok tt → (k : ℕ) → Runs p q k
 runs p q o k =
     let r = run-rest q k (plan p q) p o refl in
     let on = run-verdict k p q ∙ o in

@@ -1,11 +1,10 @@
 -- Document 02, request 7: the plan, defined without the calls, and calls in sequence. Assumes nothing.
-use Rattle.std.specs.Prelude.{ℕ, zero, suc, List, [], ◌∷◌, ◌++◌, eqb}
+use Rattle.std.specs.Prelude.{ℕ, zero, suc, List, [], ◌∷◌, ◌++◌, eqb, Option, Some, None, Result, Ok, Err}
 use Rattle.lists.specs.Pick.{pick}
+use Rattle.refusal.specs.declared.Refusal.{Refusal}
 use Rattle.util.specs.Words.{word_at}
 use Rattle.map.specs.Map.{card_words}
 use Rattle.burn.specs.declared.Step.{Step}
-use Rattle.burn.specs.declared.Next.{Next}
-use Rattle.burn.specs.declared.Next.TheVariants.{Stopped, Reached, Due}
 use Rattle.burn.specs.Burn.{next_of, leaves}
 
 -- ---- the plan
@@ -40,10 +39,10 @@ called zero present wanted = present
 called (suc k) present wanted = called k (leaves (next_of present wanted) present) wanted
 
 -- the step that a call returns, if there is one
-abbrev pub step_in : Next → List Step
-step_in (Stopped refusal) = []
-step_in Reached = []
-step_in (Due step) = step ∷ []
+abbrev pub step_in : Result (Option Step) Refusal → List Step
+step_in (Err refusal) = []
+step_in (Ok None) = []
+step_in (Ok (Some step)) = step ∷ []
 
 -- the steps that k calls return
 unfoldable pub answered : ℕ → List ℕ → List ℕ → List Step

@@ -1,9 +1,8 @@
 -- What any number of calls in sequence do, from images that nothing stops. Assumes nothing.
-use Rattle.std.specs.Prelude.{ℕ, suc, ◌-◌, ◌*◌, ◌/◌, ◌<◌, ◌≤◌, ◌≡◌, true, false, leb, length, get_or, take, drop}
+use Rattle.std.specs.Prelude.{ℕ, suc, ◌-◌, ◌*◌, ◌/◌, ◌<◌, ◌≤◌, ◌≡◌, true, false, leb, length, get_or, take, drop, Ok}
 use mathlib.Core.List.{List, ◌++◌, foldl}
 use Rattle.lists.specs.All.{All}
 use Rattle.lists.specs.Count.{count_below}
-use Rattle.refusal.specs.declared.Verdict.TheVariants.{Pass}
 use Rattle.map.specs.Map.{card_words, image_bytes, checked}
 use Rattle.burn.specs.declared.Step.{Step}
 use Rattle.burn.specs.Burn.{differ_at, reached, burn_verdict, next_of, done, reaches}
@@ -22,7 +21,7 @@ pub record Runs (present wanted : List ℕ) (k : ℕ) : Type 0 where
   pub steps : answered k present wanted ≡ take k (plan present wanted)
   pub image : called k present wanted ≡ foldl done present (take k (plan present wanted))
   pub rest : plan (called k present wanted) wanted ≡ drop k (plan present wanted)
-  pub passes : burn_verdict (called k present wanted) wanted ≡ Pass
+  pub passes : burn_verdict (called k present wanted) wanted ≡ Ok tt
   pub reaches_at : reached (called k present wanted) wanted ≡ leb (length (plan present wanted)) k
   pub tells : reaches (next_of (called k present wanted) wanted) (called k present wanted) wanted ≡ leb (length (plan present wanted)) (suc k)
   pub kept : (i : ℕ) → (i / 2 < card_words → differ_at present wanted (i / 2) ≡ false) → get_or (called k present wanted) i 0 ≡ get_or present i 0

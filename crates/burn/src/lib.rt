@@ -4,31 +4,24 @@
 
 ghost use Rattle.std.specs.Prelude.{◌≡◌, ◌+◌, ◌*◌, ◌<◌, ◌≤◌, length};
 ghost use Rattle.refusal.specs.Order.{first_of};
-ghost use Rattle.map.specs.Map.{image_bytes};
+ghost use Rattle.util.specs.Found.{found_below};
+ghost use Rattle.map.specs.Map.{card_words, image_bytes};
 ghost use Rattle.burn.specs.Burn.{differ_at, unchecked_at, first_differ, first_unchecked, next_value, word_set, step_from, burn_tests, next_of, Burns};
 
 use map::{IMAGE_BYTES, WORDS};
 use refusal::{Refusal, Verdict};
 
 // A word, and what it becomes.
-#[derive(Clone, Copy)]
+#[derive(Clone, Copy, Debug, PartialEq, Eq)]
 pub struct Step {
     pub word: usize,
     pub value: u16,
 }
 
-// What is to be done next. Reached: the present image is the wanted one.
-#[derive(Clone, Copy)]
-pub enum Next {
-    Stopped(Refusal),
-    Reached,
-    Due(Step),
-}
-
-// What a call has done, and whether the wanted image is now reached. After a refusal it is not.
-#[derive(Clone, Copy)]
+// What a call has done, if there was a step to do, and whether the wanted image is now reached.
+#[derive(Clone, Copy, Debug, PartialEq, Eq)]
 pub struct Burnt {
-    pub step: Next,
+    pub step: Option<Step>,
     pub reached: bool,
 }
 
@@ -53,34 +46,20 @@ fn unchecked_differs(present: &[u8], wanted: &[u8], word: usize) -> bool
     differs(present, wanted, word)
 }
 
-// The first word that differs, or 832.
-fn first_differing(present: &[u8], wanted: &[u8]) -> usize
+// The first word that differs.
+fn first_differing(present: &[u8], wanted: &[u8]) -> Option<usize>
     requires { (image_bytes ≤ length present.now) × (image_bytes ≤ length wanted.now) }
-    ensures { result ≡ first_differ present.now wanted.now }
+    ensures { result ≡ found_below card_words (first_differ present.now wanted.now) }
 {
-    let mut word = 0;
-    while word < WORDS {
-        if differs(present, wanted, word) {
-            return word;
-        }
-        word += 1;
-    }
-    WORDS
+    (0..WORDS).find(|&word| differs(present, wanted, word))
 }
 
-// The first unchecked word that differs, or 832.
-fn first_unchecked(present: &[u8], wanted: &[u8]) -> usize
+// The first unchecked word that differs.
+fn first_unchecked(present: &[u8], wanted: &[u8]) -> Option<usize>
     requires { (image_bytes ≤ length present.now) × (image_bytes ≤ length wanted.now) }
-    ensures { result ≡ first_unchecked present.now wanted.now }
+    ensures { result ≡ found_below card_words (first_unchecked present.now wanted.now) }
 {
-    let mut word = 0;
-    while word < WORDS {
-        if unchecked_differs(present, wanted, word) {
-            return word;
-        }
-        word += 1;
-    }
-    WORDS
+    (0..WORDS).find(|&word| unchecked_differs(present, wanted, word))
 }
 
 // Refusals 1 and 11.
@@ -89,17 +68,16 @@ fn gate(present: &[u8], wanted: &[u8]) -> Verdict
 {
     let here = present.len();
     if here < IMAGE_BYTES {
-        return Verdict::Refused(Refusal::ShortImage { length: here });
+        return Err(Refusal::ShortImage { length: here });
     }
     let there = wanted.len();
     if there < IMAGE_BYTES {
-        return Verdict::Refused(Refusal::ShortImage { length: there });
+        return Err(Refusal::ShortImage { length: there });
     }
-    let word = first_unchecked(present, wanted);
-    if word < WORDS {
-        return Verdict::Refused(Refusal::UncheckedWord { word });
+    match first_unchecked(present, wanted) {
+        Some(word) => Err(Refusal::UncheckedWord { word }),
+        None => Ok(()),
     }
-    Verdict::Pass
 }
 
 // What a word that differs becomes: zero, or what is wanted where it is zero.
@@ -112,28 +90,22 @@ fn next_value(present: &[u8], wanted: &[u8], word: usize) -> u16
     if old == 0 { new } else { 0 }
 }
 
-// The first step of the plan.
-fn first_step(present: &[u8], wanted: &[u8]) -> Next
+// The first step of the plan, if a word differs.
+fn first_step(present: &[u8], wanted: &[u8]) -> Option<Step>
     requires { (image_bytes ≤ length present.now) × (image_bytes ≤ length wanted.now) }
     ensures { result ≡ step_from present.now wanted.now }
 {
-    let word = first_differing(present, wanted);
-    if WORDS <= word {
-        return Next::Reached;
-    }
+    let word = first_differing(present, wanted)?;
     let value = next_value(present, wanted, word);
-    Next::Due(Step { word, value })
+    Some(Step { word, value })
 }
 
-// The step that `burn` would do. Refusals 1 and 11.
-pub fn next_step(present: &[u8], wanted: &[u8]) -> Next
+// The step that `burn` would do; none if the present image is the wanted one. Refusals 1 and 11.
+pub fn next_step(present: &[u8], wanted: &[u8]) -> Result<Option<Step>, Refusal>
     ensures { result ≡ next_of present.now wanted.now }
 {
-    let verdict = gate(present, wanted);
-    match verdict {
-        Verdict::Pass => first_step(present, wanted),
-        Verdict::Refused(refusal) => Next::Stopped(refusal),
-    }
+    gate(present, wanted)?;
+    Ok(first_step(present, wanted))
 }
 
 fn set_word(image: &mut [u8], word: usize, value: u16)
@@ -147,27 +119,19 @@ fn set_word(image: &mut [u8], word: usize, value: u16)
 }
 
 // Does the next step on the present image. With none to do, and after refusal 1 or 11, it changes nothing.
-pub fn burn(present: &mut [u8], wanted: &[u8]) -> Burnt
+pub fn burn(present: &mut [u8], wanted: &[u8]) -> Result<Burnt, Refusal>
     ensures { Burns present.old wanted.now present.new result }
 {
-    let next = next_step(present, wanted);
-    match next {
-        Next::Stopped(_) => Burnt {
-            step: next,
-            reached: false,
-        },
-        Next::Reached => Burnt {
-            step: next,
+    let Some(step) = next_step(present, wanted)? else {
+        return Ok(Burnt {
+            step: None,
             reached: true,
-        },
-        Next::Due(step) => {
-            let word = step.word;
-            set_word(present, word, step.value);
-            let left = first_differing(present, wanted);
-            Burnt {
-                step: next,
-                reached: WORDS <= left,
-            }
-        },
-    }
+        });
+    };
+    set_word(present, step.word, step.value);
+    let reached = first_differing(present, wanted).is_none();
+    Ok(Burnt {
+        step: Some(step),
+        reached,
+    })
 }

@@ -1,5 +1,4 @@
 -- `burn::differs` meets its contract. Assumes nothing.
-use borrow.Author.Rules.{rules}
 use mathlib.Core.Path.{◌≡◌, refl}
 use mathlib.Core.Bool.{not}
 use Prim.Native.Nat.{ℕ}

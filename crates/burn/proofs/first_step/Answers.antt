@@ -1,11 +1,13 @@
 -- `burn::first_step` meets its contract. Assumes nothing.
-use borrow.Author.Rules.{rules}
-use mathlib.Core.Path.{sym}
+use Rattle.std.proofs.Common.{sym, ◌∙◌}
+use Rattle.util.proofs.Found.{some-below, none-below}
 use Rattle.burn.proofs.Tests.{none-due, is-due}
 use Rattle.burn.proofs.first_step.Goals as goal
 
-pub returns-then-word-ge-WORDS : goal.returns-then-word-ge-WORDS
-returns-then-word-ge-WORDS c = sym (none-due _ _ (rw c.first_differing-word.ensures at c.if-word-ge-WORDS.true))
+pub returns-in_err-word : goal.returns-in_err-word
+returns-in_err-word c = c.from_residual.ensures ∙ sym (none-due _ _ (none-below _ _ (sym c.first_differing.ensures ∙ c.in_err-word.was)))
 
 pub returns : goal.returns
-returns c = is-due _ _ c.first_differing-word.ensures c.next_value-value.ensures c.if-word-ge-WORDS.false
+returns c =
+    let f = some-below _ _ (sym c.first_differing.ensures ∙ c.in_ok-word.was) in
+    is-due _ _ (sym f.0) c.next_value-value.ensures (rw f.0 at f.1)

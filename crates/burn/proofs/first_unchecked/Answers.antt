@@ -1,29 +1,16 @@
--- `burn::first_unchecked` meets its contract: at each turn the first of the words that are left is the first of all. Assumes nothing.
-use borrow.Author.Rules.{rules}
-use mathlib.Core.Path.{◌≡◌, refl, sym, ◌∙◌}
-use Prim.Native.Nat.{◌-◌, ◌≤◌}
-use native.Mathlib.Omega.{arith}
-use Rattle.lists.specs.First.{first_from}
-use Rattle.lists.proofs.First.{found, further, ended}
+-- `burn::first_unchecked` meets its contract: `find` stops at the first word that passes the test. Assumes nothing.
+use Rattle.std.proofs.Common.{◌≡◌, true, false, rules, tests}
+use Rattle.std.proofs.lemmas.Iterator.{first_from_Range}
+use Rattle.util.proofs.Found.{found-by-find}
 use Rattle.map.specs.Map.{card_words}
-use Rattle.burn.specs.Burn.{unchecked_at, first_unchecked}
+use Rattle.burn.specs.Burn.{unchecked_at}
 use Rattle.burn.proofs.first_unchecked.Goals as goal
-
-pub loop-word-init : goal.loop-word-init
-loop-word-init c = (omega arith, refl)
-
-pub returns-then-unchecked_differs : goal.returns-then-unchecked_differs
-returns-then-unchecked_differs c =
-    let l = c.loop-word in
-    sym (found _ l.word _ (search rules) (sym c.unchecked_differs.ensures ∙ c.if-unchecked_differs.true)) ∙ l.invariant.1
-
-pub loop-word-preserved : goal.loop-word-preserved
-loop-word-preserved c =
-    let l = c.loop-word in
-    (search rules, sym (further _ l.word _ (search rules) (sym c.unchecked_differs.ensures ∙ c.if-unchecked_differs.false)) ∙ l.invariant.1)
 
 pub returns : goal.returns
 returns c =
-    let l = c.loop-word in
-    let e : l.word ≡ card_words = search rules in
-    sym (ended _ _) ∙ (rw e at l.invariant.1)
+    let present = c.args.present.now in
+    let wanted = c.args.wanted.now in
+    found-by-find (unchecked_at present wanted) card_words _
+    (first_from_Range _ _ _ _ (λ w. unchecked_at present wanted w ≡ true) (λ w. unchecked_at present wanted w ≡ false) c.find.ensures.ran
+    (λ x q k. search (rules, tests))
+    (λ x q k. (search rules, search (rules, tests))))

@@ -1,5 +1,4 @@
 -- `burn::set_word` meets its contract. Assumes nothing.
-use borrow.Author.Rules.{rules}
 use mathlib.Core.Path.{refl}
 use Rattle.burn.specs.Burn.{word_set}
 use Rattle.burn.proofs.set_word.Goals as goal

@@ -1,5 +1,4 @@
 -- `burn::unchecked_differs` meets its contract. Assumes nothing.
-use borrow.Author.Rules.{rules}
 use mathlib.Core.Path.{refl, sym, ◌∙◌}
 use Rattle.burn.specs.Burn.{unchecked_at}
 use Rattle.burn.proofs.unchecked_differs.Goals as goal
