@@ -6,6 +6,7 @@ ghost use Rattle.std.specs.Int.Signed.{mag};
 ghost use Rattle.floats.specs.Floats.{real, over};
 ghost use Rattle.lists.specs.Written.{filled};
 ghost use Rattle.util.specs.Words.{word_at};
+ghost use Rattle.util.specs.Found.{found_below};
 ghost use Rattle.util.specs.Fields.{signed};
 ghost use Rattle.sums640.specs.Sums.{pixel_count, scaled, average_bytes, average_at, offset_at, alpha_rest_at, k_ta_sum_at, alpha_at, k_ta_at, outside_at, first_outside};
 ghost use Rattle.sums640.specs.Inner.{base_bound, nibble_at, row_from, column_from, shared_count, shared_word, shared_at, Shared};
@@ -257,20 +258,20 @@ fn mild(image: &[u8]) -> bool
     128 + 4 * power(scales % 16) <= 32768
 }
 
-// The first pixel with one of its four whole numbers outside i16, or 768.
-pub fn first_outside(image: &[u8], shared: &[i32]) -> usize
+// The first pixel with one of its four whole numbers outside i16, if there is one.
+pub fn first_outside(image: &[u8], shared: &[i32]) -> Option<usize>
     requires { (1664 ≤ length image.now) × (shared_count ≤ length shared.now) × Shared (word_at image.now) shared.now }
-    ensures { result ≡ first_outside (word_at image.now) }
+    ensures { result ≡ found_below pixel_count (first_outside (word_at image.now)) }
 {
     if mild(image) {
-        return PIXELS;
+        return None;
     }
     for pixel in 0..PIXELS {
         if outside_at(image, shared, pixel) {
-            return pixel;
+            return Some(pixel);
         }
     }
-    PIXELS
+    None
 }
 
 // ---- The tables
