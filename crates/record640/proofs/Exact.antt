@@ -24,7 +24,7 @@ use Rattle.util.specs.Fields.{signed}
 use Rattle.util.specs.Words.{word_at}
 use Rattle.util.proofs.Words.{big-endian-lt}
 use Rattle.util.proofs.Width.{stands}
-use Rattle.camera.specs.declared.Gradient.TheVariants.{Coefficient, Missing}
+use Rattle.std.specs.Prelude.{Option, Some, None}
 use Rattle.mlx90640.specs.Corrections.{corrections_of, pattern_of}
 use Rattle.mlx90640.proofs.Fields.{of_low}
 use Rattle.mlx90640.proofs.Sums.{valued, exactly}
@@ -87,8 +87,8 @@ twice (fin false m e) = refl
 back : (x : Float) (z : ℤ) → Exactly x z 3 → Exactly (neg (neg x)) z 3
 back x z h = rw (twice x) h
 
-of-gradient : (b : Bool) (x y : Float) (z : ℤ) → Exactly y z 5 → pick b Missing (Coefficient y) ≡ Coefficient x → Exactly x z 5
-of-gradient true x y z h e = absurd (let q : ◌≡◌ {A = ℕ} 0 1 = cc in let r : ⊥ = omega arith in r)
+of-gradient : (b : Bool) (x y : Float) (z : ℤ) → Exactly y z 5 → ◌≡◌ {A = Option Float} (pick b None (Some y)) (Some x) → Exactly x z 5
+of-gradient true x y z h e = absurd (cc)
 of-gradient false x y z h e = let q : y ≡ x = cc in subst (λ (x : Float). Exactly x z 5) q h
 
 -- ---- the claims

@@ -1,5 +1,5 @@
 -- Only the range coefficients of a record are rounded: each other f32 is exactly a whole number over a power of two, on every card. Assumes nothing.
-use Rattle.std.specs.Prelude.{ℕ, ◌+◌, ◌/◌, ◌%◌, ◌^◌, ◌<◌, ◌≡◌, List, [], ◌∷◌, ℤ, pos, ◌+ℤ◌, ◌-ℤ◌, ◌*ℤ◌, get_or, Float}
+use Rattle.std.specs.Prelude.{ℕ, ◌+◌, ◌/◌, ◌%◌, ◌^◌, ◌<◌, ◌≡◌, List, [], ◌∷◌, ℤ, pos, ◌+ℤ◌, ◌-ℤ◌, ◌*ℤ◌, get_or, Float, Some}
 use Rattle.std.specs.Float.{nan}
 use Rattle.std.specs.Float.Ieee.{neg}
 use Rattle.lists.specs.All.{All}
@@ -8,7 +8,6 @@ use Rattle.floats.specs.Floats.{over, ◌⊕◌}
 use Rattle.floats.specs.Exact.{Exactly}
 use Rattle.util.specs.Fields.{signed}
 use Rattle.util.specs.Words.{word_at}
-use Rattle.camera.specs.declared.Gradient.TheVariants.{Coefficient}
 use Rattle.map640.specs.declared.Field.{Field}
 use Rattle.map640.specs.declared.Field.TheVariants.{OffsetScales, AlphaScales, Gain, VPtat25, Ptat, KV, Access, AlphaCp, KCp, KSTa, KSTo, Corners}
 use Rattle.map640.specs.Map.{word_of}
@@ -98,7 +97,7 @@ pub record Exact (w : ℕ → ℕ) (range : ℕ) : Type 0 where
   pub lists : All IsExact (lists w range)
   pub pattern : All IsExact (pattern w range)
   -- the gradient, if there is one
-  pub gradient : (x : Float) → (calibration_of w range).temperature_gradient_coefficient ≡ Coefficient x → Exactly x (signed 8 (word w KSTa)) 5
+  pub gradient : (x : Float) → (calibration_of w range).temperature_gradient_coefficient ≡ Some x → Exactly x (signed 8 (word w KSTa)) 5
 
 -- the claim for all words of 16 bits
 abbrev pub Claim : Type 0

@@ -1,12 +1,10 @@
 -- The MLX90640's paper, "Record and tables": the numbers of words 48 to 63, and alpha_PTAT of word 16, over `w`, a card's words by their numbers;
 -- `word_of` is the map's. Assumes nothing.
-use Rattle.std.specs.Prelude.{ℕ, ◌+◌, ◌*◌, ◌/◌, ◌%◌, ◌^◌, List, [], ◌∷◌, eqb, Float, replicate, ℤ, pos, ◌+ℤ◌, ◌-ℤ◌, ◌*ℤ◌}
+use Rattle.std.specs.Prelude.{ℕ, ◌+◌, ◌*◌, ◌/◌, ◌%◌, ◌^◌, List, [], ◌∷◌, eqb, Float, replicate, ℤ, pos, ◌+ℤ◌, ◌-ℤ◌, ◌*ℤ◌, Option, Some, None}
 use Rattle.lists.specs.Pick.{pick}
 use Rattle.floats.specs.Constants.{one, plus_zero}
 use Rattle.floats.specs.Floats.{real, over, ◌⊕◌, ◌⊗◌}
 use Rattle.util.specs.Fields.{signed, minus}
-use Rattle.camera.specs.declared.Gradient.{Gradient}
-use Rattle.camera.specs.declared.Gradient.TheVariants.{Coefficient, Missing}
 use Rattle.map640.specs.declared.Field.{Field}
 use Rattle.map640.specs.declared.Field.TheVariants.{OffsetScales, AlphaScales, Gain, VPtat25, Ptat, VDd, KV, Access, Scales, AlphaCp, OffsetCp, KCp, KSTa, KSTo, Corners}
 use Rattle.map640.specs.Map.{word_of}
@@ -80,8 +78,8 @@ unfoldable pub k_s_ta : (ℕ → ℕ) → Float
 k_s_ta w = over (signed 8 (word w KSTa / 2 ^ 8)) 13
 
 -- none where the byte is 0
-unfoldable pub gradient_of : ℕ → Gradient
-gradient_of n = pick (eqb (n % 2 ^ 8) 0) Missing (Coefficient (over (signed 8 n) 5))
+unfoldable pub gradient_of : ℕ → Option Float
+gradient_of n = pick (eqb (n % 2 ^ 8) 0) None (Some (over (signed 8 n) 5))
 
 -- ---- ranges
 
@@ -155,7 +153,7 @@ no_calibration = record {
   offset_reference_cp = replicate 2 (pos 0);
   k_v_cp = plus_zero;
   k_ta_cp = plus_zero;
-  temperature_gradient_coefficient = Missing;
+  temperature_gradient_coefficient = None;
   k_v = replicate 4 plus_zero;
   access_pattern = replicate 6 plus_zero;
   access_cp = plus_zero;

@@ -5,10 +5,9 @@ ghost use Rattle.std.specs.Prelude.{◌≡◌, ◌≤◌, ◌<◌, length};
 ghost use Rattle.floats.specs.Floats.{over};
 ghost use Rattle.util.specs.Fields.{signed};
 ghost use Rattle.util.specs.Words.{word_at};
+ghost use Rattle.util.specs.Found.{found_below};
 ghost use Rattle.record640.specs.Record.{k_v_dd_of, v_dd25_of, k_v_ptat, k_t_ptat, alpha_ptat_of, whole_of, resolution_of, k_vs, k_v_cp, k_ta_cp, alpha_cp0, alpha_cps, offset_cps_of, k_s_ta, gradient_of, k_s_tos, corners_of, corners_at, coefficients_of, calibration_of, no_calibration};
 ghost use Rattle.ranges.specs.Coefficients.{zero_factor};
-
-use camera::Gradient;
 
 // The number of temperature ranges.
 pub const RANGES: usize = 4;
@@ -32,7 +31,7 @@ pub struct Calibration {
     pub offset_reference_cp: [i16; 2],
     pub k_v_cp: f32,
     pub k_ta_cp: f32,
-    pub temperature_gradient_coefficient: Gradient,
+    pub temperature_gradient_coefficient: Option<f32>,
     // K_V, one value for each entry of the chessboard
     pub k_v: [f32; 4],
     // the six-entry pattern that corrects pixels in interleave mode
@@ -170,13 +169,13 @@ pub fn k_s_ta(image: &[u8]) -> f32
 }
 
 // The gradient: the lower byte of word 60, signed, divided by 2^5; none if the byte is 0.
-pub fn gradient(word: u16) -> Gradient
+pub fn gradient(word: u16) -> Option<f32>
     ensures { result ≡ gradient_of word }
 {
     if word % 256 == 0 {
-        return Gradient::Missing;
+        return None;
     }
-    Gradient::Coefficient(over(word, 8, 5))
+    Some(over(word, 8, 5))
 }
 
 // ---- Ranges
@@ -233,10 +232,10 @@ pub fn coefficients(image: &[u8], basic_range: usize) -> [f32; 4]
     list
 }
 
-// Returns the range nearest below the basic one whose coefficient would be divided by zero, or 4 if there is none.
-pub fn zero_factor(image: &[u8], basic_range: usize) -> usize
+// Returns the range nearest below the basic one whose coefficient would be divided by zero, if there is one.
+pub fn zero_factor(image: &[u8], basic_range: usize) -> Option<usize>
     requires { (1664 ≤ length image.now) × (basic_range < 4) }
-    ensures { result ≡ zero_factor 4 (corners_at (word_at image.now)) (k_s_tos (word_at image.now)) basic_range }
+    ensures { result ≡ found_below 4 (zero_factor 4 (corners_at (word_at image.now)) (k_s_tos (word_at image.now)) basic_range) }
 {
     let corner_temperatures = corners_of(image);
     let k_s_to = k_s_to(image);
@@ -297,7 +296,7 @@ pub fn no_calibration() -> Calibration
         offset_reference_cp: [0; 2],
         k_v_cp: 0.0,
         k_ta_cp: 0.0,
-        temperature_gradient_coefficient: Gradient::Missing,
+        temperature_gradient_coefficient: None,
         k_v: [0.0; 4],
         access_pattern: [0.0; 6],
         access_cp: 0.0,
