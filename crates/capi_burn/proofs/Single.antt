@@ -2,12 +2,11 @@
 use Prim.Native.Nat.{ℕ}
 use mathlib.Core.Path.{◌≡◌, ap, sym, ◌∙◌}
 use mathlib.Core.List.{List}
-use Rattle.burn.specs.declared.Burnt.{Burnt}
 use Rattle.burn.proofs.Single as burn
 use Rattle.capi_burn.specs.declared.Burn.{Burn}
-use Rattle.capi_burn.specs.Burning.{flag_of, burning_out, Burning}
+use Rattle.capi_burn.specs.Burning.{burnt_out, Burning}
 
 pub single-burning : {present wanted x y : List ℕ} {r q : Burn} → Burning present wanted x r → Burning present wanted y q → (r ≡ q) × (x ≡ y)
 single-burning p s =
     let e = burn.single p.burns s.burns in
-    (p.out ∙ ap (λ (b : Burnt). burning_out b.step (flag_of b.reached)) e.0 ∙ sym s.out, e.1)
+    (p.out ∙ ap burnt_out e.0 ∙ sym s.out, e.1)

@@ -5,7 +5,8 @@ ghost use Rattle.std.specs.Prelude.{◌≡◌};
 ghost use Rattle.burn.specs.Burn.{next_of};
 ghost use Rattle.capi_burn.specs.Burning.{flag_of, burning_out, is_reached, Burning};
 
-use burn::Next;
+use burn::Step;
+use refusal::Refusal;
 
 // The result of a burning call: number, place and value of the refusal, all 0 for none; the step's word and its new value, 832 and 0 if there is no step; and
 // `reached`, 1 if the wanted image is reached, else 0.
@@ -24,26 +25,22 @@ pub struct Burn {
 fn flag(test: bool) -> u8
     ensures { result ≡ flag_of test }
 {
-    if test { 1 } else { 0 }
+    u8::from(test)
 }
 
 // Whether there is no step left to do.
-fn is_reached(next: Next) -> bool
+fn is_reached(next: Result<Option<Step>, Refusal>) -> bool
     ensures { result ≡ is_reached next }
 {
-    match next {
-        Next::Stopped(_) => false,
-        Next::Reached => true,
-        Next::Due(_) => false,
-    }
+    matches!(next, Ok(None))
 }
 
 // Returns a step as C has it.
-fn burn_out(next: Next, reached: u8) -> Burn
+fn burn_out(next: Result<Option<Step>, Refusal>, reached: u8) -> Burn
     ensures { result ≡ burning_out next reached }
 {
     match next {
-        Next::Stopped(refusal) => {
+        Err(refusal) => {
             let told = refusal.told();
             Burn {
                 number: told.number,
@@ -54,7 +51,7 @@ fn burn_out(next: Next, reached: u8) -> Burn
                 reached,
             }
         },
-        Next::Reached => Burn {
+        Ok(None) => Burn {
             number: 0,
             place: 0,
             value: 0,
@@ -62,7 +59,7 @@ fn burn_out(next: Next, reached: u8) -> Burn
             bits: 0,
             reached,
         },
-        Next::Due(step) => Burn {
+        Ok(Some(step)) => Burn {
             number: 0,
             place: 0,
             value: 0,
@@ -87,7 +84,8 @@ pub extern "C" fn loamchalice_next_step(present: &[u8], wanted: &[u8]) -> Burn
 pub extern "C" fn loamchalice_burn(present: &mut [u8], wanted: &[u8]) -> Burn
     ensures { Burning present.old wanted.now present.new result }
 {
-    let burnt = burn::burn(present, wanted);
-    let next = burnt.step;
-    burn_out(next, flag(burnt.reached))
+    match burn::burn(present, wanted) {
+        Err(refusal) => burn_out(Err(refusal), 0),
+        Ok(burnt) => burn_out(Ok(burnt.step), flag(burnt.reached)),
+    }
 }
