@@ -1,2 +1,2 @@
--- For the proofs of the gates.
-mod Turns
+-- Turns is for proofs of gates, those of callers too.
+pub mod Turns

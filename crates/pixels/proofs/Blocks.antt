@@ -9,6 +9,7 @@ use native.Mathlib.Numerals.{add-one}
 use native.Mathlib.Omega.{arith}
 use lib.ListN.{get_or, length, replicate, get_or-replicate}
 use lib.Ieee.{Float, nan, binary32, of_bits, to_bits}
+use Rattle.std.specs.Prelude.{Option}
 use Rattle.lists.specs.Written.{written}
 use Rattle.lists.specs.Count.{count_below}
 use Rattle.lists.specs.Each.{Each}
@@ -17,7 +18,6 @@ use Rattle.roots.specs.Many.{side}
 use Rattle.root.specs.Root.{celsius}
 use Rattle.formulas.specs.declared.CommonIrData.{CommonIrData}
 use Rattle.formulas.specs.declared.CommonToData.{CommonToData}
-use Rattle.formulas.specs.declared.Deduction.{Deduction}
 use Rattle.formulas.specs.Pixel.{decided}
 use Rattle.pixels.specs.declared.Goal.{Goal}
 use Rattle.pixels.specs.declared.Goal.TheVariants.{Infrared, Temperature, Ranged}
@@ -125,7 +125,7 @@ in-turn-same x k =
 
 -- ---- an infrared number by its source
 
-module _ {s : Source} {c : CommonIrData} {b : Deduction} (e : s ≡ Pixels c b) (l : Lent) where
+module _ {s : Source} {c : CommonIrData} {b : Option Float} (e : s ≡ Pixels c b) (l : Lent) where
   pub readable : {n : ℕ} → ReadableFor s l n → Readable l n
   readable {n} r = subst (λ (x : Source). ReadableFor x l n) e r
 

@@ -1,5 +1,5 @@
 -- For inner functions only: a pixel's numbers over what the code lifts out of the pixels. Assumes nothing.
-use Rattle.std.specs.Prelude.{ℕ, ◌+◌, ◌*◌, ◌/◌, ◌%◌, ◌≤◌, ◌<◌, ◌≡◌, true, List, T, ℤ, pos, get_or, length, Float}
+use Rattle.std.specs.Prelude.{ℕ, ◌+◌, ◌*◌, ◌/◌, ◌%◌, ◌≤◌, ◌<◌, ◌≡◌, true, List, T, ℤ, pos, get_or, length, Option, Float}
 use Rattle.std.specs.Float.{nan, binary32}
 use Rattle.std.specs.Float.Ieee.{to_bits}
 use Rattle.floats.specs.Floats.{real, ◌⊖◌}
@@ -9,7 +9,6 @@ use Rattle.roots.specs.Many.{side}
 use Rattle.ranges.specs.Corners.{range_of}
 use Rattle.formulas.specs.declared.CommonIrData.{CommonIrData}
 use Rattle.formulas.specs.declared.CommonToData.{CommonToData}
-use Rattle.formulas.specs.declared.Deduction.{Deduction}
 use Rattle.formulas.specs.declared.Range.{Range}
 use Rattle.formulas.specs.Pixel.{plain_of, ranged_of, decided, answer_of}
 use Rattle.formulas.specs.Inner.{deducted, lifted_sensitivity, lifted_under, lifted_from, lifted_final}
@@ -36,7 +35,7 @@ abbrev pub lent : List ℕ → List ℤ → List Float → List Float → ℕ �
 lent p o t v vn a an = record { pixels = p; offsets = o; k_ta = t; k_v = v; k_v_blocks = vn; access = a; access_blocks = an }
 
 -- of pixel k with its K_V and access term
-unfoldable pub raw_of : CommonIrData → Deduction → List ℕ → List ℤ → List Float → ℕ → Float → Float → Float
+unfoldable pub raw_of : CommonIrData → Option Float → List ℕ → List ℤ → List Float → ℕ → Float → Float → Float
 raw_of c b p o t k k_v access = deducted (plain_of c (reading_at p k) (real (get_or o k (pos 0))) k_v (get_or t k nan) access) b
 
 -- pixel k's entry of a list of so many blocks, which are taken in turn

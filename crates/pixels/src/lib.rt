@@ -1,5 +1,6 @@
 // The pixels of a frame, in blocks of 32: their readings to infrared numbers, those to temperatures, and what the mask asks for into the
-// destination. One driver serves every call of both cameras. Loops over a block have no branch, so that a compiler takes several pixels at once.
+// destination. One driver serves every call of both cameras. Loops over a block have no branch, so that a compiler takes several pixels at once. They count
+// an index, which several lists share: in this form their speed is measured.
 #![tactic(auto)]
 
 ghost use Rattle.std.specs.Prelude.{◌≡◌, false, ℕ, ◌+◌, ◌*◌, ◌%◌, ◌<◌, ◌≤◌, length, get_or};
@@ -17,7 +18,7 @@ ghost use Rattle.pixels.specs.Pixels.{touched, reading_at, held, answer_bits, in
 ghost use Rattle.pixels.specs.Inner.{lent, raw_of, in_turn, number_at, ReadableFor, table, lifted_at, under_at, rooted_at, ranged_from, lifted_ranged_at, bits_by, WorkableFor, v, number_bits, answers_from, celsius_at, Written};
 ghost use Rattle.pixels.specs.Blocks.{is, IsNat, Unasked, lost_flag, Flagged, Block};
 
-use formulas::{CommonIrData, CommonToData, Deduction, Pixel, Range};
+use formulas::{CommonIrData, CommonToData, Pixel, Range};
 use offsets::Offset;
 use roots::SIDE;
 
@@ -29,7 +30,7 @@ const PATTERN: u32 = 0x7FC0_0000;
 pub enum Source {
     Pixels {
         common: CommonIrData,
-        deduction: Deduction,
+        deduction: Option<f32>,
     },
     Destination,
 }
@@ -106,7 +107,7 @@ fn real(offset: Offset) -> f32
 // Pixel i's infrared number, with its K_V and access term.
 fn infrared_at(
     common: CommonIrData,
-    deduction: Deduction,
+    deduction: Option<f32>,
     pixels: &[u8],
     offsets: &[Offset],
     k_ta: &[f32],
@@ -126,7 +127,7 @@ fn infrared_at(
 // The infrared numbers of the block from base on, with K_V and access terms from others on.
 fn infrared_block(
     common: CommonIrData,
-    deduction: Deduction,
+    deduction: Option<f32>,
     pixels: &[u8],
     offsets: &[Offset],
     k_ta: &[f32],
