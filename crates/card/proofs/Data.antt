@@ -8,6 +8,8 @@ use native.Mathlib.Nat.{lt_of_not-le, le_of_eq}
 use native.Mathlib.Omega.{arith}
 use lib.Dec.{lit<}
 use lib.ListN.{length, get_or-eq_default}
+use Rattle.std.specs.Prelude.{Option, None, Some}
+use Rattle.std.proofs.lemmas.Option.{none-some}
 use Rattle.lists.specs.Pick.{pick}
 use Rattle.lists.specs.Written.{filled}
 use Rattle.lists.proofs.First.{is-first}
@@ -17,8 +19,9 @@ use Rattle.hamming.specs.Word.{Said, says, damaged, data_values, is_said, decode
 use Rattle.hamming.proofs.Answers as answers
 use Rattle.map.specs.Map.{card_words, checked}
 use Rattle.map.proofs.Spans.{unchecked-past}
-use Rattle.card.specs.Card.{read_at, data_at, damaged_at, first_damaged}
-use Rattle.card.specs.Inner.{at}
+use Rattle.card.specs.Card.{read_at, data_at, damaged_at, first_damaged, stray_at}
+use Rattle.card.specs.Inner.{read_of, at}
+use Rattle.card.specs.declared.Read.{Read}
 
 -- if a word decodes to d, it is not damaged and its data are d
 module _ (image : List ℕ) (word d : ℕ) (e : read_at image word ≡ says d) where
@@ -29,6 +32,22 @@ module _ (image : List ℕ) (word d : ℕ) (e : read_at image word ≡ says d) w
   pub data_is : d ≡ data_at image word
   unfolding data_at
   data_is = sym (ap said_data e)
+
+-- what `read_word` read says of the word; it reads nothing of a damaged word
+module _ (image : List ℕ) (word : ℕ) where
+  some_of : (b : Bool) (r q : Read) → Some r ≡ pick b None (Some q) → (b ≡ false) × (r ≡ q)
+  some_of true r q e = absurd (none-some r (sym e))
+  some_of false r q e = (refl, cc e)
+
+  none_of : (b : Bool) (q : Read) → ◌≡◌ {A = Option Read} None (pick b None (Some q)) → b ≡ true
+  none_of true q e = refl
+  none_of false q e = absurd (none-some q e)
+
+  pub was-read : {r : Read} → Some r ≡ read_of image word → (damaged_at image word ≡ false) × (r ≡ record { value = data_at image word; stray = stray_at image word })
+  was-read {r} e = some_of (damaged_at image word) r (record { value = data_at image word; stray = stray_at image word }) e
+
+  pub was-damaged : ◌≡◌ {A = Option Read} None (read_of image word) → damaged_at image word ≡ true
+  was-damaged e = none_of (damaged_at image word) (record { value = data_at image word; stray = stray_at image word }) e
 
 -- `readAt` of a checked word is its decoding; of any other word it is data 0
 pub read-checked : (image : List ℕ) (word : ℕ) → checked word ≡ true → read_at image word ≡ decoded (word_at image word)

@@ -7,6 +7,7 @@ use mathlib.Core.List.{List}
 use native.Mathlib.Nat.{add-zero}
 use native.Mathlib.Numerals.{add-one}
 use native.Mathlib.Omega.{arith}
+use Rattle.std.specs.Prelude.{Option, None, Some, Ok, Err}
 use Rattle.lists.specs.Pick.{pick}
 use Rattle.lists.specs.Count.{count_below}
 use Rattle.lists.specs.Last.{last_below}
@@ -15,22 +16,24 @@ use Rattle.util.specs.Words.{word_at}
 use Rattle.refusal.specs.declared.Refusal.{Refusal}
 use Rattle.hamming.specs.Word.{Said, says, damaged, is_said, said_data, codeword, decoded}
 use Rattle.hamming.specs.Answer.{check_answer, said_of}
-use Rattle.hamming.specs.declared.Checked.TheVariants.{Clean, Mended, Refused}
+use Rattle.hamming.specs.declared.Checked.TheVariants.{Clean, Mended}
 use Rattle.hamming.proofs.Answers.{check-says}
 use Rattle.hamming.proofs.Exactly.{clean-only, mended-only, refused-only}
 use Rattle.map.specs.Map.{card_words, checked}
 use Rattle.card.specs.Card.{read_at, data_at, damaged_at, stray_at, mending_below, no_mending}
 use Rattle.card.specs.Inner.{read_of, counted}
+use Rattle.card.specs.declared.Read.{Read}
 
 module _ (image : List ℕ) (word : ℕ) where
-  -- the three fields of `Read`, from the decoding of the word and from whether it is a codeword
-  parts : (s : Said) (b : Bool) → read_at image word ≡ s → stray_at image word ≡ b → record { value = said_data s; damaged = not (is_said s); stray = b } ≡ read_of image word
-  unfolding data_at damaged_at
-  parts s b e f =
-      sym (ap (λ (x : Said). record { value = said_data x; damaged = not (is_said x); stray = stray_at image word }) e
-      ∙ ap (λ (x : Bool). record { value = said_data s; damaged = not (is_said s); stray = x }) f)
+  -- what is read, from the decoding of the word and from whether it is a codeword
+  abbrev read_as : Said → Bool → Option Read
+  read_as s b = pick (not (is_said s)) None (Some (record { value = said_data s; stray = b }))
 
-  pub unchecked : checked word ≡ false → record { value = 0; damaged = false; stray = false } ≡ read_of image word
+  parts : (s : Said) (b : Bool) → read_at image word ≡ s → stray_at image word ≡ b → read_as s b ≡ read_of image word
+  unfolding data_at damaged_at
+  parts s b e f = sym (ap (λ (x : Said). read_as x (stray_at image word)) e ∙ ap (read_as s) f)
+
+  pub unchecked : checked word ≡ false → Some (record { value = 0; stray = false }) ≡ read_of image word
   unfolding read_at stray_at
   unchecked e =
       parts (says 0) false (ap (λ (b : Bool). pick b (decoded (word_at image word)) (says 0)) e)
@@ -45,17 +48,17 @@ module _ (image : List ℕ) (word : ℕ) where
     unfolding stray_at
     stray b f = ap (λ (x : Bool). x && not (codeword (word_at image word))) e ∙ ap not f
 
-    pub clean : (d : ℕ) → check_answer (word_at image word) ≡ Clean d → record { value = d; damaged = false; stray = false } ≡ read_of image word
+    pub clean : (d : ℕ) → check_answer (word_at image word) ≡ Ok (Clean d) → Some (record { value = d; stray = false }) ≡ read_of image word
     clean d f =
         let w = word_at image word in
         parts (says d) false (said (says d) (sym (check-says w) ∙ ap said_of f)) (stray true (clean-only w d f))
 
-    pub mended : (d k : ℕ) → check_answer (word_at image word) ≡ Mended d k → record { value = d; damaged = false; stray = true } ≡ read_of image word
+    pub mended : (d k : ℕ) → check_answer (word_at image word) ≡ Ok (Mended d k) → Some (record { value = d; stray = true }) ≡ read_of image word
     mended d k f =
         let w = word_at image word in
         parts (says d) true (said (says d) (sym (check-says w) ∙ ap said_of f)) (stray false (mended-only w d k f).stray)
 
-    pub refused : (r : Refusal) → check_answer (word_at image word) ≡ Refused r → record { value = 0; damaged = true; stray = true } ≡ read_of image word
+    pub refused : (r : Refusal) → check_answer (word_at image word) ≡ Err r → None ≡ read_of image word
     refused r f =
         let w = word_at image word in
         parts damaged true (said damaged (sym (check-says w) ∙ ap said_of f)) (stray false (refused-only w r f))

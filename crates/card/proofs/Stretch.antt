@@ -11,6 +11,7 @@ use lib.Bits.{bit_or}
 use lib.Dec.{T, ltb}
 use lib.ListN.{get_or, set, length}
 use borrow.Author.Tests.{le-ltb, lt-ltb}
+use Rattle.std.specs.Prelude.{Some}
 use Rattle.lists.specs.Pick.{pick}
 use Rattle.lists.specs.First.{first_from}
 use Rattle.lists.specs.Written.{filled}
@@ -25,6 +26,7 @@ use Rattle.map.specs.Map.{card_words, checked, role_of, spans}
 use Rattle.card.specs.Card.{damaged_at, mending_below}
 use Rattle.card.specs.Inner.{read_of, counted, high_at, low_at, Codewords, Clean, FilledOn}
 use Rattle.card.specs.declared.Read.{Read}
+use Rattle.card.proofs.Data.{was-read}
 use Rattle.card.proofs.Reading.{clean, one-counted}
 
 -- all words of the card from 24 on are checked
@@ -44,7 +46,7 @@ unfolding right
 checked-from w a b = true_of (checked w) (rw (le-ltb w 24 a, lt-ltb w card_words b) at (test w (omega arith)))
 
 module _ (image : List ℕ) (first n : ℕ) (p : Clean image first n) where
-  pub clean-word : (i : ℕ) → i < n → record { value = data_of (word_at image (first + i)); damaged = false; stray = false } ≡ read_of image (first + i)
+  pub clean-word : (i : ℕ) → i < n → Some (record { value = data_of (word_at image (first + i)); stray = false }) ≡ read_of image (first + i)
   clean-word i h =
       let a = p.from (omega arith) in
       let b = p.within in
@@ -57,7 +59,7 @@ module _ (image : List ℕ) (first n : ℕ) (p : Clean image first n) where
       let b = p.within in
       let e : first + i + 1 ≡ first + suc i = omega (arith, add-suc first i) in
       damaged-on i (omega arith)
-      ∙ further (damaged_at image) (first + i) card_words (omega arith) (sym (ap (λ (r : Read). r.damaged) (clean-word i (omega arith))))
+      ∙ further (damaged_at image) (first + i) card_words (omega arith) ((was-read image (first + i) (clean-word i (omega arith))).0)
       ∙ ap (λ (k : ℕ). first_from (damaged_at image) k (card_words - k)) e
 
   pub none-damaged : first_from (damaged_at image) first (card_words - first) ≡ first_from (damaged_at image) (first + n) (card_words - (first + n))
@@ -68,7 +70,7 @@ module _ (image : List ℕ) (first n : ℕ) (p : Clean image first n) where
   mended-on (suc i) h =
       let e : first + i + 1 ≡ first + suc i = omega (arith, add-suc first i) in
       mended-on i (omega arith)
-      ∙ ap (λ (b : Bool). counted (mending_below image (first + i)) (first + i) b) (ap (λ (r : Read). r.stray) (clean-word i (omega arith)))
+      ∙ ap (λ (b : Bool). counted (mending_below image (first + i)) (first + i) b) (ap (λ (r : Read). r.stray) (was-read image (first + i) (clean-word i (omega arith))).1)
       ∙ one-counted image (first + i) ∙ ap (mending_below image) e
 
   pub none-mended : mending_below image first ≡ mending_below image (first + n)

@@ -1,10 +1,11 @@
 // The words of a card: decodes their data, finds the first damaged word, counts the mended ones, and reads fields from the data by a cursor.
 #![tactic(auto)]
 
-ghost use Rattle.std.specs.Prelude.{◌≡◌, true, ◌+◌, ◌*◌, ◌<◌, ◌≤◌, length, pos};
+ghost use Rattle.std.specs.Prelude.{◌≡◌, true, ◌+◌, ◌*◌, ◌<◌, ◌≤◌, length, pos, IfSome};
 ghost use Rattle.lists.specs.Written.{filled};
 ghost use Rattle.floats.specs.Floats.{real, over};
 ghost use Rattle.util.specs.Fields.{combined};
+ghost use Rattle.util.specs.Found.{found_below};
 ghost use Rattle.map.specs.Map.{card_words, image_bytes};
 ghost use Rattle.card.specs.Card.{data_at, first_damaged, no_mending, mending_below};
 ghost use Rattle.card.specs.Inner.{read_of, counted, long, high_at, low_at, Codewords, Clean, FilledOn, plain_at, signed_at, combined_at, split_at, scaled_at, times32_at, fraction_at, real_at};
@@ -22,57 +23,49 @@ const MIDDLE: usize = 32;
 
 const SHORT: usize = 8;
 
-// The number of checked words that are not codewords, and the number of the last such word, or 832 if there is none.
-#[derive(Clone, Copy)]
+// The number of checked words that are not codewords, and the number of the last such word, or 832 if there is none. `last` is no Option: the C
+// interface hands it out as this number.
+#[derive(Clone, Copy, Debug, PartialEq, Eq)]
 pub struct Mending {
     pub count: usize,
     pub last: usize,
 }
 
-// The result of decoding a card: the first damaged word in reading order, or 832 if there is none, and the mended words before it.
-#[derive(Clone, Copy)]
+// The result of decoding a card: the first damaged word in reading order, if there is one, and the mended words before it.
+#[derive(Clone, Copy, Debug, PartialEq, Eq)]
 pub struct Decoded {
-    pub damaged: usize,
+    pub damaged: Option<usize>,
     pub mending: Mending,
 }
 
-// A word of an image as read: its data, whether it is damaged, and whether it is a checked word that is not a codeword.
-#[derive(Clone, Copy)]
+// A word of an image as read: its data, and whether it is a checked word that is not a codeword.
+#[derive(Clone, Copy, Debug, PartialEq, Eq)]
 pub struct Read {
     pub value: u16,
-    pub damaged: bool,
     pub stray: bool,
 }
 
-// Reads word number `word` of an image. The data of an unchecked or damaged word are 0.
-pub fn read_word(image: &[u8], word: usize) -> Read
+// Reads word number `word` of an image; nothing is read of a damaged word. The data of an unchecked word are 0.
+pub fn read_word(image: &[u8], word: usize) -> Option<Read>
     requires { word * 2 + 1 < length image.now }
     ensures { result ≡ read_of image.now word }
 {
-    if map::is_checked(word) {
-        match hamming::check(util::word_at(image, word)) {
-            Checked::Clean(data) => Read {
-                value: data,
-                damaged: false,
-                stray: false,
-            },
-            Checked::Mended { data, bit } => Read {
-                value: data,
-                damaged: false,
-                stray: true,
-            },
-            Checked::Refused(refusal) => Read {
-                value: 0,
-                damaged: true,
-                stray: true,
-            },
-        }
-    } else {
-        Read {
+    if !map::is_checked(word) {
+        return Some(Read {
             value: 0,
-            damaged: false,
             stray: false,
-        }
+        });
+    }
+    match hamming::check(util::word_at(image, word)) {
+        Ok(Checked::Clean(data)) => Some(Read {
+            value: data,
+            stray: false,
+        }),
+        Ok(Checked::Mended { data, .. }) => Some(Read {
+            value: data,
+            stray: true,
+        }),
+        Err(_) => None,
     }
 }
 
@@ -132,28 +125,28 @@ fn are_codewords(image: &[u8], first: usize, n: usize) -> bool
     any == 0
 }
 
-// The length of a block of codewords that starts at this word: 160, 32, 8, or 0 if none was found. A block of 160 is tried only at word 32 and every
-// 160 words after it, so a mended word makes only one long try fail.
-fn clean_ahead(image: &[u8], word: usize) -> usize
+// The length of a block of codewords that starts at this word: 160, 32, 8, or none if no such block was found. A block of 160 is tried only at word 32
+// and every 160 words after it, so a mended word makes only one long try fail.
+fn clean_ahead(image: &[u8], word: usize) -> Option<usize>
     requires { (image_bytes ≤ length image.now) × (word < card_words) }
-    ensures { Clean image.now word result }
+    ensures { IfSome result (λ n. (0 < n) × Clean image.now word n) }
 {
     if word < FIRST_STRETCH {
-        return 0;
+        return None;
     }
     if word % SHORT != 0 {
-        return 0;
+        return None;
     }
     if word % LONG == MIDDLE && are_codewords(image, word, LONG) {
-        return LONG;
+        return Some(LONG);
     }
     if word % MIDDLE == 0 && are_codewords(image, word, MIDDLE) {
-        return MIDDLE;
+        return Some(MIDDLE);
     }
     if are_codewords(image, word, SHORT) {
-        return SHORT;
+        return Some(SHORT);
     }
-    0
+    None
 }
 
 // Writes the data of the n words from `first` on, which are codewords, into `words`.
@@ -170,33 +163,32 @@ fn fill_clean(image: &[u8], first: usize, n: usize, words: &mut Words)
 // Decodes an image up to the first damaged word. Writes the data of all words before it into `words`.
 pub fn decode(image: &[u8], words: &mut Words) -> Decoded
     requires { image_bytes ≤ length image.now }
-    ensures damaged_value { result.damaged ≡ first_damaged image.now }
-    ensures mending_value { result.mending ≡ mending_below image.now result.damaged }
-    ensures words_after { words.new ≡ filled (data_at image.now) result.damaged words.old }
+    ensures damaged_value { result.damaged ≡ found_below card_words (first_damaged image.now) }
+    ensures mending_value { result.mending ≡ mending_below image.now (first_damaged image.now) }
+    ensures words_after { words.new ≡ filled (data_at image.now) (first_damaged image.now) words.old }
 {
     let mut mending = no_mending();
     let mut word: usize = 0;
-    // A required form (docs/DECISIONS.md): this loop yields the damaged word's place by break, or 832. So `place` here stays a number; only the struct
-    // below may hold it as an Option.
-    let damaged = loop {
-        if word == WORDS {
-            break WORDS;
-        }
-        let clean = clean_ahead(image, word);
-        if 0 < clean {
+    while word < WORDS {
+        if let Some(clean) = clean_ahead(image, word) {
             fill_clean(image, word, clean, words);
             word += clean;
             continue;
         }
-        let read = read_word(image, word);
-        if read.damaged {
-            break word;
-        }
+        let Some(read) = read_word(image, word) else {
+            return Decoded {
+                damaged: Some(word),
+                mending,
+            };
+        };
         words[word] = read.value;
         mending = mending.with(word, read.stray);
         word += 1;
-    };
-    Decoded { damaged, mending }
+    }
+    Decoded {
+        damaged: None,
+        mending,
+    }
 }
 
 // An unsigned field divided by 2^power.
@@ -214,140 +206,112 @@ fn combined_real(upper: u16, lower: u16) -> f32
 }
 
 // The number of the word of a card that is read next.
-#[derive(Clone, Copy)]
+#[derive(Clone, Copy, Debug, PartialEq, Eq)]
 pub struct Cursor {
     pub word: usize,
 }
 
-// An unsigned field, and the cursor after it. The structs below hold other kinds of field in the same way.
+// The value of a field, and the cursor after it.
 #[derive(Clone, Copy)]
-pub struct Plain {
-    pub value: u16,
-    pub next: Cursor,
-}
-
-#[derive(Clone, Copy)]
-pub struct Signed {
-    pub value: i16,
-    pub next: Cursor,
-}
-
-#[derive(Clone, Copy)]
-pub struct Combined {
-    pub value: u32,
-    pub next: Cursor,
-}
-
-#[derive(Clone, Copy)]
-pub struct Split {
-    pub value: Pair,
-    pub next: Cursor,
-}
-
-#[derive(Clone, Copy)]
-pub struct Scaled {
-    pub value: f32,
+pub struct Field<T> {
+    pub value: T,
     pub next: Cursor,
 }
 
 impl Cursor {
     // Reads a word's data, unsigned.
-    pub fn plain(self, words: &Words) -> Plain
+    pub fn plain(self, words: &Words) -> Field<u16>
         requires { self.word < card_words }
         ensures { result ≡ plain_at words.now self.word }
     {
         let word = self.word;
-        Plain {
+        Field {
             value: words[word],
             next: Cursor { word: word + 1 },
         }
     }
 
     // Reads a word's data as a signed number of 11 bits.
-    pub fn signed(self, words: &Words) -> Signed
+    pub fn signed(self, words: &Words) -> Field<i16>
         requires { self.word < card_words }
         ensures { result ≡ signed_at words.now self.word }
     {
         let word = self.word;
-        Signed {
+        Field {
             value: util::i16_from_bits(util::wide(words[word]), 11),
             next: Cursor { word: word + 1 },
         }
     }
 
     // Reads a word's data as a signed number of 11 bits, times 32.
-    pub fn times_32(self, words: &Words) -> Signed
+    pub fn times_32(self, words: &Words) -> Field<i16>
         requires { self.word < card_words }
         ensures { result ≡ times32_at words.now self.word }
     {
         let field = self.signed(words);
-        let value = field.value;
-        let next = field.next;
-        Signed {
-            value: value * 32,
-            next,
+        Field {
+            value: field.value * 32,
+            next: field.next,
         }
     }
 
     // Reads a word's data, unsigned, divided by 2^power.
-    pub fn fraction(self, words: &Words, power: u16) -> Scaled
+    pub fn fraction(self, words: &Words, power: u16) -> Field<f32>
         requires { self.word < card_words }
         ensures { result ≡ fraction_at words.now power self.word }
     {
         let field = self.plain(words);
-        let next = field.next;
-        Scaled {
+        Field {
             value: fraction_of(field.value, power),
-            next,
+            next: field.next,
         }
     }
 
     // Reads a word's data as a signed number of 11 bits, divided by 2^power.
-    pub fn scaled(self, words: &Words, power: u16) -> Scaled
+    pub fn scaled(self, words: &Words, power: u16) -> Field<f32>
         requires { self.word < card_words }
         ensures { result ≡ scaled_at words.now power self.word }
     {
         let field = self.signed(words);
-        let next = field.next;
-        Scaled {
+        Field {
             value: field.value as f32 / floats::exp2(power),
-            next,
+            next: field.next,
         }
     }
 
     // Reads two words, combined.
-    pub fn combined(self, words: &Words) -> Combined
+    pub fn combined(self, words: &Words) -> Field<u32>
         requires { self.word + 1 < card_words }
         ensures { result ≡ combined_at words.now self.word }
     {
         let upper = self.word;
         let lower = upper + 1;
-        Combined {
+        Field {
             value: util::combine(words[upper], words[lower]),
             next: Cursor { word: upper + 2 },
         }
     }
 
     // Reads two words, combined, as f32.
-    pub fn real(self, words: &Words) -> Scaled
+    pub fn real(self, words: &Words) -> Field<f32>
         requires { self.word + 1 < card_words }
         ensures { result ≡ real_at words.now self.word }
     {
         let upper = self.word;
         let lower = upper + 1;
-        Scaled {
+        Field {
             value: combined_real(words[upper], words[lower]),
             next: Cursor { word: upper + 2 },
         }
     }
 
     // Reads a word split in two, the lower part of `low_bits` bits.
-    pub fn split(self, words: &Words, low_bits: u32) -> Split
+    pub fn split(self, words: &Words, low_bits: u32) -> Field<Pair>
         requires { (self.word < card_words) × (low_bits < 16) }
         ensures { result ≡ split_at words.now low_bits self.word }
     {
         let word = self.word;
-        Split {
+        Field {
             value: util::split(words[word], low_bits),
             next: Cursor { word: word + 1 },
         }

@@ -6,6 +6,7 @@ use native.Mathlib.Omega.{arith}
 use Rattle.card.specs.Inner.{Clean}
 use Rattle.card.specs.declared.Read.{Read}
 use Rattle.hamming.specs.Word.{data_of}
+use Rattle.card.proofs.Data.{was-read}
 use Rattle.card.proofs.Stretch.{clean-word, start, one-filled}
 use Rattle.card.proofs.fill_clean.Goals as goal
 
@@ -18,7 +19,7 @@ loop-i-preserved c =
     let l = c.loop-i in
     let p : Clean s.args.image.now s.args.first s.args.n = s.requires.1 in
     let h : l.i < s.args.n = search rules in
-    (omega arith, one-filled _ _ _ l.invariant.1 (ap data_of c.word_by_one_load.ensures ∙ ap (λ (r : Read). r.value) (clean-word _ _ _ p l.i h)))
+    (omega arith, one-filled _ _ _ l.invariant.1 (ap data_of c.word_by_one_load.ensures ∙ ap (λ (r : Read). r.value) (was-read _ _ (clean-word _ _ _ p l.i h)).1))
 
 pub returns : goal.returns
 returns c = let l = c.loop-i in let e : l.i ≡ c.args.n = omega arith in rw e at l.invariant.1

@@ -9,13 +9,13 @@ use mir.Syntax.{w16}
 use mir.Val.{SFits, to_z, of_z}
 use Rattle.util.specs.Fields.{signed}
 use Rattle.util.proofs.Width.{signed_back}
-use Rattle.card.specs.declared.Signed.{Signed}
+use Rattle.card.specs.declared.Field.{Field}
 use Rattle.card.specs.Inner.{signed_at}
 use Rattle.card.proofs.Times.{times-fits, times-back}
 use Rattle.card.proofs.Cursor.times_32.Goals as goal
 
-value : (words : List ℕ) (k : ℕ) (r : Signed) → r ≡ signed_at words k → to_z w16 (of_z w16 r.value) ≡ signed 11 (get_or words k 0)
-value words k r e = ap (λ (r : Signed). to_z w16 (of_z w16 r.value)) e ∙ signed_back 11 (get_or words k 0) (lit≤ tt) (lit≤ tt)
+value : (words : List ℕ) (k : ℕ) (r : Field ℤ) → r ≡ signed_at words k → to_z w16 (of_z w16 r.value) ≡ signed 11 (get_or words k 0)
+value words k r e = ap (λ (r : Field ℤ). to_z w16 (of_z w16 r.value)) e ∙ signed_back 11 (get_or words k 0) (lit≤ tt) (lit≤ tt)
 
 pub overflow_mul-result : goal.overflow_mul-result
 overflow_mul-result c =
@@ -25,8 +25,8 @@ overflow_mul-result c =
 pub returns : goal.returns
 returns c =
     let word = get_or c.args.words.now c.args.self.word 0 in
-    let made : ℤ → Signed = λ z. record { value = z; next = c.signed-field.result.next } in
-    let moved : Signed → Signed = λ r. record { value = signed 11 word *ℤ pos 32; next = r.next } in
+    let made : ℤ → Field ℤ = λ z. record { value = z; next = c.signed-field.result.next } in
+    let moved : Field ℤ → Field ℤ = λ r. record { value = signed 11 word *ℤ pos 32; next = r.next } in
     ap (λ (z : ℤ). made (to_z w16 (of_z w16 (z *ℤ pos 32)))) (value c.args.words.now c.args.self.word c.signed-field.result c.signed-field.ensures)
     ∙ ap made (times-back word)
     ∙ ap moved c.signed-field.ensures
