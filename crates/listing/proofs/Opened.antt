@@ -5,7 +5,7 @@ use mathlib.Core.Bool.{Bool, true, false, ◌||◌, true≢false}
 use mathlib.Core.List.{List}
 use borrow.Author.Tests.{ltb-false, le-ltb}
 use lib.ListN.{length}
-use Rattle.refusal.specs.declared.Verdict.TheVariants.{Pass}
+use Rattle.std.specs.Prelude.{Ok}
 use Rattle.refusal.specs.Order.{first_of}
 use Rattle.refusal.proofs.Order.{passed}
 use Rattle.map.specs.Map.{card_words, image_bytes, checked_words}
@@ -24,7 +24,7 @@ pub record Sound (image : List ℕ) (first second : ℕ) : Type 0 where
   pub second-long : unchecked_words ≤ second
   pub none : card_words ≤ first_damaged image
 
-pub opened : (image : List ℕ) (first second : ℕ) → first_of (read_tests image first second) ≡ Pass → Sound image first second
+pub opened : (image : List ℕ) (first second : ℕ) → first_of (read_tests image first second) ≡ Ok tt → Sound image first second
 unfolding read_tests
 opened image first second e =
     let p = passed _ _ _ e in
@@ -39,7 +39,7 @@ opened image first second e =
     }
 
 -- they are not refused
-pub closed : (image : List ℕ) (first second : ℕ) → Sound image first second → first_of (read_tests image first second) ≡ Pass
+pub closed : (image : List ℕ) (first second : ℕ) → Sound image first second → first_of (read_tests image first second) ≡ Ok tt
 unfolding read_tests first_of
 closed image first second s =
     simp (le-ltb _ _ s.image-long, le-ltb _ _ s.first-long, le-ltb _ _ s.second-long, le-ltb _ _ s.none)

@@ -1,8 +1,8 @@
 -- Reading a card's words, the reverse of document 02's request 2: what stops it, lowest number first, and what it writes to the lists. Assumes nothing.
-use Rattle.std.specs.Prelude.{ℕ, ◌≡◌, ◌||◌, List, [], ◌∷◌, ltb, length}
+use Rattle.std.specs.Prelude.{ℕ, ◌≡◌, ◌||◌, List, [], ◌∷◌, ltb, length, ⊤, Result}
 use Rattle.lists.specs.Written.{filled}
 use Rattle.refusal.specs.declared.Refusal.TheVariants.{ShortImage, ShortTable, DamagedWord}
-use Rattle.refusal.specs.declared.Verdict.{Verdict}
+use Rattle.refusal.specs.declared.Refusal.{Refusal}
 use Rattle.refusal.specs.Refusal.{unless}
 use Rattle.refusal.specs.Order.{Test, ◌refuses◌, first_of}
 use Rattle.util.specs.Words.{word_at}
@@ -31,6 +31,6 @@ read_tests image first second =
 -- ---- the contract
 
 -- the contract of `read_words`: its image, the lists before and after, and its verdict r
-pub record Reads (image : List ℕ) (before after : Lists) (r : Verdict) : Type 0 where
+pub record Reads (image : List ℕ) (before after : Lists) (r : Result ⊤ Refusal) : Type 0 where
   pub verdict : r ≡ first_of (read_tests image (length before.checked) (length before.unchecked))
   pub lent : after ≡ unless r (lists_of image before) before

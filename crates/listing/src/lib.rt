@@ -1,9 +1,8 @@
 // Reads a card into two lists, each in reading order: the data of its checked words, and its unchecked words as they are.
 #![tactic(auto)]
 
-ghost use Rattle.std.specs.Prelude.{◌≡◌, ◌+◌, ◌<◌, ◌≤◌, length, get_or};
+ghost use Rattle.std.specs.Prelude.{◌≡◌, ◌+◌, ◌<◌, ◌≤◌, length, get_or, OnOk};
 ghost use Rattle.lists.specs.Written.{filled};
-ghost use Rattle.refusal.specs.declared.Verdict.TheVariants.{Pass};
 ghost use Rattle.refusal.specs.Order.{first_of};
 ghost use Rattle.util.specs.Words.{word_at};
 ghost use Rattle.map.specs.Map.{card_words, image_bytes, checked_words, checked};
@@ -54,11 +53,9 @@ fn keep_words(image: &[u8], words: &Words, data: &mut [u16], others: &mut [u16])
     ensures data_after { «data».new ≡ filled (λ k. get_or words.now (listed_word checked k) 0) checked_words «data».old }
     ensures others_after { others.new ≡ filled (λ k. word_at image.now (listed_word unchecked k)) unchecked_words others.old }
 {
-    let mut word: usize = 0;
-    let mut before: usize = 0;
-    while word < WORDS {
+    let mut before = 0;
+    for word in 0..WORDS {
         before = keep_word(image, words, word, before, data, others);
-        word += 1;
     }
 }
 
@@ -66,25 +63,25 @@ fn keep_words(image: &[u8], words: &Words, data: &mut [u16], others: &mut [u16])
 fn read_gate(image: &[u8], data: usize, others: usize, words: &mut Words) -> Verdict
     requires { length words.old ≡ card_words }
     ensures value { result ≡ first_of (read_tests image.now «data» others) }
-    ensures words_after { result ≡ Pass → words.new ≡ filled (data_at image.now) card_words words.old }
+    ensures words_after { OnOk result (words.new ≡ filled (data_at image.now) card_words words.old) }
 {
     let length = image.len();
     if length < IMAGE_BYTES {
-        return Verdict::Refused(Refusal::ShortImage { length });
+        return Err(Refusal::ShortImage { length });
     }
     if data < CHECKED_WORDS {
-        return Verdict::Refused(Refusal::ShortTable);
+        return Err(Refusal::ShortTable);
     }
     if others < UNCHECKED_WORDS {
-        return Verdict::Refused(Refusal::ShortTable);
+        return Err(Refusal::ShortTable);
     }
-    let decoded = card::decode(image, words);
-    let word = decoded.damaged;
-    if word < WORDS {
-        let bits = util::word_at(image, word);
-        return Verdict::Refused(Refusal::DamagedWord { word, bits });
+    match card::decode(image, words).damaged {
+        Some(word) => {
+            let bits = util::word_at(image, word);
+            Err(Refusal::DamagedWord { word, bits })
+        },
+        None => Ok(()),
     }
-    Verdict::Pass
 }
 
 // Reads a card: writes the data of its checked words to the first 814 entries of `data` and its unchecked words to the first 18 of `others`, both in
@@ -93,10 +90,7 @@ pub fn read_words(image: &[u8], data: &mut [u16], others: &mut [u16]) -> Verdict
     ensures { Reads image.now (lists «data».old others.old) (lists «data».new others.new) result }
 {
     let mut words = [0u16; WORDS];
-    let verdict = read_gate(image, data.len(), others.len(), &mut words);
-    let Verdict::Pass = verdict else {
-        return verdict;
-    };
+    read_gate(image, data.len(), others.len(), &mut words)?;
     keep_words(image, &words, data, others);
-    verdict
+    Ok(())
 }

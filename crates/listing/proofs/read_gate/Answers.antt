@@ -1,12 +1,12 @@
 -- `listing::read_gate` meets its contract: each return is one line of the definition, and the words are decoded where it passes.
 -- Assumes nothing.
 use borrow.Author.Tests.{lt-ltb, le-ltb}
-use mathlib.Core.Path.{◌≡◌}
+use mathlib.Core.Path.{◌≡◌, sym, ◌∙◌}
 use Prim.Native.Nat.{◌<◌, ◌≤◌}
 use native.Mathlib.Omega.{arith}
 use lib.ListN.{length}
 use Rattle.refusal.specs.Order.{first_of}
-use Rattle.refusal.proofs.Order.{never}
+use Rattle.util.proofs.Found.{some-below, none-below}
 use Rattle.map.specs.Map.{card_words, image_bytes, checked_words}
 use Rattle.card.specs.Card.{first_damaged}
 use Rattle.card.proofs.Data.{damaged-within}
@@ -18,14 +18,14 @@ pub returns-then-length-lt-IMAGE_BYTES : goal.returns-then-length-lt-IMAGE_BYTES
 unfolding read_tests first_of
 returns-then-length-lt-IMAGE_BYTES c =
     let h : length c.args.image.now < image_bytes = omega arith in
-    record { value = simp (lt-ltb _ _ h); words_after = λ e. absurd (never _ e) }
+    record { value = simp (lt-ltb _ _ h); words_after = tt }
 
 pub returns-then-data-lt-CHECKED_WORDS : goal.returns-then-data-lt-CHECKED_WORDS
 unfolding read_tests first_of
 returns-then-data-lt-CHECKED_WORDS c =
     let a : image_bytes ≤ length c.args.image.now = omega arith in
     let h : c.args.«data» < checked_words = omega arith in
-    record { value = simp (le-ltb _ _ a, lt-ltb _ _ h); words_after = λ e. absurd (never _ e) }
+    record { value = simp (le-ltb _ _ a, lt-ltb _ _ h); words_after = tt }
 
 pub returns-then-others-lt-UNCHECKED_WORDS : goal.returns-then-others-lt-UNCHECKED_WORDS
 unfolding read_tests first_of
@@ -33,31 +33,30 @@ returns-then-others-lt-UNCHECKED_WORDS c =
     let a : image_bytes ≤ length c.args.image.now = omega arith in
     let b : checked_words ≤ c.args.«data» = omega arith in
     let h : c.args.others < unchecked_words = omega arith in
-    record { value = simp (le-ltb _ _ a, le-ltb _ _ b, lt-ltb _ _ h); words_after = λ e. absurd (never _ e) }
+    record { value = simp (le-ltb _ _ a, le-ltb _ _ b, lt-ltb _ _ h); words_after = tt }
 
-pub returns-then-word-lt-WORDS : goal.returns-then-word-lt-WORDS
+pub returns-in-Some : goal.returns-in-Some
 unfolding read_tests first_of
-returns-then-word-lt-WORDS c =
+returns-in-Some c =
     let a : image_bytes ≤ length c.args.image.now = omega arith in
     let b : checked_words ≤ c.args.«data» = omega arith in
     let d : unchecked_words ≤ c.args.others = omega arith in
-    let e = c.decode-decoded.ensures.damaged_value in
-    let h : first_damaged c.args.image.now < card_words = omega arith in
+    let f = some-below card_words (first_damaged c.args.image.now) (sym c.decode.ensures.damaged_value ∙ c.in-Some.is) in
     record {
-      value = simp (c.word_at-bits.ensures, e, le-ltb _ _ a, le-ltb _ _ b, le-ltb _ _ d, lt-ltb _ _ h);
-      words_after = λ e. absurd (never _ e);
+      value = simp (c.word_at-bits.ensures, sym f.0, le-ltb _ _ a, le-ltb _ _ b, le-ltb _ _ d, lt-ltb _ _ f.1);
+      words_after = tt;
     }
 
-pub returns : goal.returns
+pub returns-in-None : goal.returns-in-None
 unfolding read_tests first_of
-returns c =
+returns-in-None c =
     let a : image_bytes ≤ length c.args.image.now = omega arith in
     let b : checked_words ≤ c.args.«data» = omega arith in
     let d : unchecked_words ≤ c.args.others = omega arith in
-    let e = c.decode-decoded.ensures.damaged_value in
+    let n = none-below card_words (first_damaged c.args.image.now) (sym c.decode.ensures.damaged_value ∙ c.in-None.is) in
     let w = damaged-within c.args.image.now in
-    let k : c.decode-decoded.result.damaged ≡ card_words = omega arith in
+    let k : first_damaged c.args.image.now ≡ card_words = omega arith in
     record {
-      value = simp (le-ltb _ _ a, le-ltb _ _ b, le-ltb _ _ d, le-ltb _ _ (rw e at c.if-word-lt-WORDS.false));
-      words_after = λ p. (rw k at c.decode-decoded.ensures.words_after);
+      value = simp (le-ltb _ _ a, le-ltb _ _ b, le-ltb _ _ d, le-ltb _ _ n);
+      words_after = (rw k at c.decode.ensures.words_after);
     }
