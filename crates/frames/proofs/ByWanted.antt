@@ -6,14 +6,13 @@ use native.Mathlib.Omega.{arith}
 use lib.IntN.{ℤ}
 use lib.ListN.{get_or, length}
 use lib.Ieee.{Float, nan}
-use Rattle.refusal.specs.declared.Verdict.TheVariants.{Pass}
+use Rattle.std.specs.Prelude.{Ok, Option}
 use Rattle.refusal.specs.Order.{first_of}
 use Rattle.root.specs.Root.{celsius}
 use Rattle.roots.specs.Many.{side}
 use Rattle.ranges.specs.Corners.{range_of}
 use Rattle.formulas.specs.declared.CommonIrData.{CommonIrData}
 use Rattle.formulas.specs.declared.CommonToData.{CommonToData}
-use Rattle.formulas.specs.declared.Deduction.{Deduction}
 use Rattle.formulas.specs.Pixel.{ranged_of, answer_of}
 use Rattle.formulas.specs.Inner.{compensation_of, common_to_of, lifted_final}
 use Rattle.formulas.proofs.Lifted as lifted
@@ -88,7 +87,7 @@ module _ (c : Call) (p : List ℕ) (o : List ℤ) (t v a : List Float) (m : List
     pub workable : (x : CommonToData) → WorkableFor (goal_by w x c.ranges) works (c.blocks * side)
 
   pub opened : (w : Wanted) (d : List ℕ) → (0 < c.ranges) × (c.ranges ≤ length corners) × (c.ranges ≤ length ks) × (c.ranges ≤ length fs)
-      → verdict_of w pass d ≡ Pass → Passed w d
+      → verdict_of w pass d ≡ Ok tt → Passed w d
   unfolding ir_verdict pass_verdict ranged_verdict
   opened Infrared d r e = record { long = infrared-opened _ _ _ _ e; in-range = tt; workable = λ x. tt }
   opened Temperature d r e =
@@ -110,7 +109,7 @@ module _ (c : Call) (p : List ℕ) (o : List ℤ) (t v a : List Float) (m : List
   goal-bits Temperature k = ap (λ (X : Float). answer_bits (answer_of X (infrared_at ir k))) (final-is (onward pass) (infrared_at ir) k)
   goal-bits Ranged k = ap (λ (X : Float). answer_bits (answer_of X (infrared_at ir k))) (ranged-is (onward pass) (infrared_at ir) k)
 
-  pub bits_are : (w : Wanted) (d : List ℕ) (k : ℕ) {x : CommonIrData} {b : Deduction} {g : Goal} → x ≡ common ir → b ≡ compensation_of c.constants x c.compensation c.access_cp
+  pub bits_are : (w : Wanted) (d : List ℕ) (k : ℕ) {x : CommonIrData} {b : Option Float} {g : Goal} → x ≡ common ir → b ≡ compensation_of c.constants x c.compensation c.access_cp
       → g ≡ goal_by w (common_to_of c.constants c.settings x.t_a (get_or ks c.settings.basic_range nan)) c.ranges
       → bits_by g works (number_at (Pixels x b) read d k) k ≡ made_bits w pass k
   bits_are w d k e f h =

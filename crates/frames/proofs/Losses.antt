@@ -7,6 +7,7 @@ use lib.Dec.{T, eqb}
 use lib.ListN.{get_or, length}
 use lib.Ieee.{Float, nan, inf, fin, binary32, fits, is_nan, add, sub, mul, div}
 use borrow.Author.Tests.{eq-eqb, eqb-true}
+use Rattle.std.specs.Prelude.{⊤, Result, Ok}
 use Rattle.lists.specs.Pick.{pick}
 use Rattle.lists.proofs.Written.{written_at}
 use Rattle.floats.specs.Floats.{◌⊕◌, ◌⊖◌, ◌⊗◌, ◌⊘◌}
@@ -14,8 +15,7 @@ use Rattle.floats.specs.Constants.{pattern}
 use Rattle.floats.proofs.Nan.{pattern-tells}
 use Rattle.root.specs.Root.{root, celsius}
 use Rattle.refusal.specs.Refusal.{unless}
-use Rattle.refusal.specs.declared.Verdict.{Verdict}
-use Rattle.refusal.specs.declared.Verdict.TheVariants.{Pass}
+use Rattle.refusal.specs.declared.Refusal.{Refusal}
 use Rattle.formulas.specs.declared.Pixel.TheVariants.{Temperature, Lost}
 use Rattle.formulas.specs.declared.Range.{Range}
 use Rattle.formulas.specs.Pixel.{ranged_of}
@@ -30,10 +30,10 @@ use Rattle.frames.proofs.Calls.{infrared-fits}
 use Rattle.frames.proofs.Demand.{to-long, pass-long, ranged-long}
 
 -- a pixel that the mask asks for holds its bits
-module _ {n : ℕ} {verdict : Verdict} {t_a : Float} {mask : List ℕ} (bits : ℕ → ℕ) {d d' : List ℕ} {r : Frame} (w : Writes n verdict t_a mask bits d d' r) (e : verdict ≡ Pass) (l : n ≤ length d) where
+module _ {n : ℕ} {verdict : Result ⊤ Refusal} {t_a : Float} {mask : List ℕ} (bits : ℕ → ℕ) {d d' : List ℕ} {r : Result Frame Refusal} (w : Writes n verdict t_a mask bits d d' r) (e : verdict ≡ Ok tt) (l : n ≤ length d) where
   holds : (k : ℕ) → k < n → touched mask k ≡ true → get_or d' k 0 ≡ bits k
   holds k h a =
-      ap (λ (x : List ℕ). get_or x k 0) (w.destination ∙ ap (λ (v : Verdict). unless v (into n mask bits d) d) e)
+      ap (λ (x : List ℕ). get_or x k 0) (w.destination ∙ ap (λ (v : Result ⊤ Refusal). unless v (into n mask bits d) d) e)
       ∙ written_at (touched mask) bits n d k 0 l h ∙ ap (λ (b : Bool). pick b (bits k) (get_or d k 0)) a
 
 -- the bits of a temperature, or the NaN pattern
@@ -44,26 +44,26 @@ answered t v false e f = pattern-tells t f ∙ e
 lost-temperature : (X v : ℕ → Float) (k : ℕ) → eqb (temperature_bits X v k) pattern ≡ is_nan (celsius (X k))
 lost-temperature X v k = answered (celsius (X k)) (v k) (is_nan (celsius (X k))) refl (celsius-fits (X k))
 
-temperatures-lost : {n : ℕ} {verdict : Verdict} {t_a : Float} {mask : List ℕ} (X v : ℕ → Float) {d d' : List ℕ} {r : Frame} → Writes n verdict t_a mask (temperature_bits X v) d d' r
-    → verdict ≡ Pass → n ≤ length d → LostExactly n mask d' (λ (k : ℕ). celsius (X k))
+temperatures-lost : {n : ℕ} {verdict : Result ⊤ Refusal} {t_a : Float} {mask : List ℕ} (X v : ℕ → Float) {d d' : List ℕ} {r : Result Frame Refusal} → Writes n verdict t_a mask (temperature_bits X v) d d' r
+    → verdict ≡ Ok tt → n ≤ length d → LostExactly n mask d' (λ (k : ℕ). celsius (X k))
 temperatures-lost X v w e l = record { at = λ k h a. ap (λ (x : ℕ). eqb x pattern) (holds _ w e l k h a) ∙ lost-temperature X v k }
 
-ir-long : (f : IrCall) (d : List ℕ) → ir_verdict f d ≡ Pass → f.size ≤ length d
+ir-long : (f : IrCall) (d : List ℕ) → ir_verdict f d ≡ Ok tt → f.size ≤ length d
 unfolding ir_verdict
 ir-long f d e = (infrared-opened _ _ _ _ e).destination
 
 -- ---- each call, if it passes
 
-pub infrared-lost : (f : IrCall) (d d' : List ℕ) (r : Frame) → Infrareds f d d' r → ir_verdict f d ≡ Pass → LostInfrared f d'
+pub infrared-lost : (f : IrCall) (d d' : List ℕ) (r : Result Frame Refusal) → Infrareds f d d' r → ir_verdict f d ≡ Ok tt → LostInfrared f d'
 infrared-lost f d d' r w e = record { at = λ k h a. ap (λ (x : ℕ). eqb x pattern) (holds _ w e (ir-long f d e) k h a) ∙ pattern-tells (infrared_at f k) (infrared-fits f k) }
 
-pub to-lost : (f : ToCall) (d d' : List ℕ) (r : Frame) → Temperatures f d d' r → to_verdict f d ≡ Pass → LostTo f (held d) d'
+pub to-lost : (f : ToCall) (d d' : List ℕ) (r : Result Frame Refusal) → Temperatures f d d' r → to_verdict f d ≡ Ok tt → LostTo f (held d) d'
 to-lost f d d' r w e = temperatures-lost (final_at f (held d)) (held d) w e (to-long f d e)
 
-pub pass-lost : (f : PassCall) (d d' : List ℕ) (r : Frame) → Passes f d d' r → pass_verdict f d ≡ Pass → LostPass f d'
+pub pass-lost : (f : PassCall) (d d' : List ℕ) (r : Result Frame Refusal) → Passes f d d' r → pass_verdict f d ≡ Ok tt → LostPass f d'
 pass-lost f d d' r w e = temperatures-lost (final_at (onward f) (infrared_at f.ir)) (infrared_at f.ir) w e (pass-long f d e)
 
-pub ranged-lost : (f : PassCall) (d d' : List ℕ) (r : Frame) → RangedPasses f d d' r → ranged_verdict f d ≡ Pass → LostRanged f d'
+pub ranged-lost : (f : PassCall) (d d' : List ℕ) (r : Result Frame Refusal) → RangedPasses f d d' r → ranged_verdict f d ≡ Ok tt → LostRanged f d'
 ranged-lost f d d' r w e = temperatures-lost (ranged_at (onward f) (infrared_at f.ir)) (infrared_at f.ir) w e (ranged-long f d e)
 
 -- ---- if the basic temperature is NaN, so is the temperature of the second pass
@@ -110,7 +110,7 @@ nan-is-none : is_nan nan ≡ true
 unfolding is_nan
 nan-is-none = refl
 
-pub no-basic : (f : PassCall) (d d' : List ℕ) (r : Frame) → RangedPasses f d d' r → ranged_verdict f d ≡ Pass → NoBasic f d'
+pub no-basic : (f : PassCall) (d d' : List ℕ) (r : Result Frame Refusal) → RangedPasses f d d' r → ranged_verdict f d ≡ Ok tt → NoBasic f d'
 no-basic f d d' r w e = record {
   at = λ k h a n.
       let none = ap celsius (ranged-none (onward f) (infrared_at f.ir) k n) ∙ root-nan in

@@ -11,6 +11,7 @@ use lib.Ieee.{Float, binary32, fits, to_bits, of_bits}
 use lib.Ieee.Fits.{add-fits}
 use lib.Ieee.Bits.{of_bits-to_bits}
 use borrow.Author.Tests.{le-leb, lt-ltb, le-ltb, ltb-true, ltb-false}
+use Rattle.std.specs.Prelude.{⊤, Result, Ok, Err}
 use Rattle.lists.specs.Pick.{pick}
 use Rattle.lists.specs.First.{first_from}
 use Rattle.lists.proofs.Written.{length-written}
@@ -18,23 +19,21 @@ use Rattle.refusal.specs.Refusal.{unless}
 use Rattle.refusal.specs.Order.{◌refuses◌, first_of}
 use Rattle.refusal.specs.declared.Refusal.{Refusal}
 use Rattle.refusal.specs.declared.Refusal.TheVariants.{ShortTable, ShortFrame, BasicRange, SupplyRange, ZeroDivisor}
-use Rattle.refusal.specs.declared.Verdict.{Verdict}
 use Rattle.formulas.specs.Frame.{common_of, ambient_of}
 use Rattle.gates.specs.Gate.{supply_outside, zero_divisor, bad_emissivity, length_tests, range_tests, reading_tests, emissivity_tests, temperature_tests}
 use Rattle.pixels.specs.Pixels.{touched, infrared_bits, temperature_bits, into, lost_of}
 use Rattle.frames.specs.declared.Frame.{Frame}
-use Rattle.frames.specs.declared.Frame.TheVariants.{Done}
-use Rattle.frames.specs.Frames.{IrCall, PassCall, answer_by, common, infrared_at, final_at, onward, ir_verdict, to_verdict, pass_verdict, Writes, Infrareds, Temperatures, Passes}
+use Rattle.frames.specs.Frames.{IrCall, PassCall, frame_of, answer_by, common, infrared_at, final_at, onward, ir_verdict, to_verdict, pass_verdict, Writes, Infrareds, Temperatures, Passes}
 use Rattle.frames.specs.OneOrTwo.{standing, earlier, second, OneOrTwo}
 use Rattle.frames.proofs.Opened.{infrared-opened}
 use Rattle.frames.proofs.Both.{both-lost, both-into}
 
 -- ---- the verdicts, by the tests alone
 
-first-stands : (v : Verdict) → earlier (Verdict.Refused ShortTable) v ≡ Verdict.Refused ShortTable
+first-stands : (v : Result ⊤ Refusal) → earlier (Err ShortTable) v ≡ Err ShortTable
 unfolding first_from
-first-stands Verdict.Pass = refl
-first-stands (Verdict.Refused y) = ap (λ (b : Bool). pick b (Verdict.Refused ShortTable) (Verdict.Refused y)) (le-leb 0 (standing y) zero-le)
+first-stands (Ok _) = refl
+first-stands (Err y) = ap (λ (b : Bool). pick b (Err ShortTable) (Err y)) (le-leb 0 (standing y) zero-le)
 
 -- A B P D M R S Z E: whether each test holds (infrared's table, temperature's table, pixel bytes, destination, mask, range, supply, divisor, emissivity);
 -- p q d m r: their places
@@ -76,32 +75,32 @@ either a b n true t e f = let h = ltb-true b n e in lt-ltb (min a b) n (omega ar
 either a b n false true e f = let h = ltb-true a n f in lt-ltb (min a b) n (omega arith)
 either a b n false false e f = let h = ltb-false b n e in let k = ltb-false a n f in le-ltb (min a b) n (omega arith)
 
-same_length : (f : IrCall) {d d₁ : List ℕ} {r : Frame} → Infrareds f d d₁ r → length d₁ ≡ length d
+same_length : (f : IrCall) {d d₁ : List ℕ} {r : Result Frame Refusal} → Infrareds f d d₁ r → length d₁ ≡ length d
 same_length f {d} i = ap length i.destination ∙ kept (ir_verdict f d)
   where
-    kept : (v : Verdict) → length (unless v (into f.size f.mask (infrared_bits (infrared_at f)) d) d) ≡ length d
-    kept Verdict.Pass = length-written (touched f.mask) (infrared_bits (infrared_at f)) f.size d
-    kept (Verdict.Refused x) = refl
+    kept : (v : Result ⊤ Refusal) → length (unless v (into f.size f.mask (infrared_bits (infrared_at f)) d) d) ≡ length d
+    kept (Ok _) = length-written (touched f.mask) (infrared_bits (infrared_at f)) f.size d
+    kept (Err x) = refl
 
 -- ---- from a result to its verdict, and from a verdict that passes to the result
 
-module _ {n : ℕ} {v : Verdict} {t_a : Float} {mask : List ℕ} {bits : ℕ → ℕ} {d d' : List ℕ} {r : Frame} (w : Writes n v t_a mask bits d d' r) (e : v ≡ Verdict.Pass) where
-  answered : r ≡ Done (to_bits binary32 t_a) (lost_of n mask bits)
-  answered = w.answer ∙ ap (λ (x : Verdict). answer_by x (Done (to_bits binary32 t_a) (lost_of n mask bits))) e
+module _ {n : ℕ} {v : Result ⊤ Refusal} {t_a : Float} {mask : List ℕ} {bits : ℕ → ℕ} {d d' : List ℕ} {r : Result Frame Refusal} (w : Writes n v t_a mask bits d d' r) (e : v ≡ Ok tt) where
+  answered : r ≡ Ok (frame_of (to_bits binary32 t_a) (lost_of n mask bits))
+  answered = w.answer ∙ ap (λ (x : Result ⊤ Refusal). answer_by x (frame_of (to_bits binary32 t_a) (lost_of n mask bits))) e
 
   left : d' ≡ into n mask bits d
-  left = w.destination ∙ ap (λ (x : Verdict). unless x (into n mask bits d) d) e
+  left = w.destination ∙ ap (λ (x : Result ⊤ Refusal). unless x (into n mask bits d) d) e
 
-done-passed : (v : Verdict) {a t : ℕ} {b n : ℕ} → answer_by v (Done a b) ≡ Done t n → (v ≡ Verdict.Pass) × (a ≡ t) × (b ≡ n)
-done-passed Verdict.Pass e = (refl, cc, cc)
-done-passed (Verdict.Refused x) e = absurd (let z : ◌≡◌ {A = ℕ} 0 1 = cc in let q : ⊥ = omega arith in q)
+done-passed : (v : Result ⊤ Refusal) {a t : ℕ} {b n : ℕ} → answer_by v (frame_of a b) ≡ Ok (frame_of t n) → (v ≡ Ok tt) × (a ≡ t) × (b ≡ n)
+done-passed (Ok _) {a} {t} {b} {n} e = let f : frame_of a b ≡ frame_of t n = cc in (refl, ap (λ (x : Frame). x.t_a) f, ap (λ (x : Frame). x.lost) f)
+done-passed (Err x) e = absurd (let z : ◌≡◌ {A = ℕ} 0 1 = cc in let q : ⊥ = omega arith in q)
 
 -- if the second verdict refuses, so does the earlier of the two, and nothing changes
-left_by : {A : Type 0} (v : Verdict) (x : Refusal) (new old : A) → unless (earlier v (Verdict.Refused x)) new old ≡ old
-left_by Verdict.Pass x new old = refl
-left_by (Verdict.Refused y) x new old = go (leb (standing y) (standing x))
+left_by : {A : Type 0} (v : Result ⊤ Refusal) (x : Refusal) (new old : A) → unless (earlier v (Err x)) new old ≡ old
+left_by (Ok _) x new old = refl
+left_by (Err y) x new old = go (leb (standing y) (standing x))
   where
-    go : (b : Bool) → unless (pick b (Verdict.Refused y) (Verdict.Refused x)) new old ≡ old
+    go : (b : Bool) → unless (pick b (Err y) (Err x)) new old ≡ old
     go true = refl
     go false = refl
 
@@ -128,40 +127,40 @@ module _ (f : PassCall) (d : List ℕ) where
       ∙ ap (λ (b : Bool). earlier (ir_verdict f.ir d) (first_of (B refuses ShortTable ∷ b refuses ShortFrame (2 * n) ∷ D refuses ShortFrame (length d) ∷ M refuses ShortFrame m ∷ R refuses BasicRange f.ir.settings.basic_range ∷ E refuses ZeroDivisor ∷ [])))
       (sym (le-ltb (2 * n) (2 * n) (le_refl (2 * n))))
 
-  onwards : (t_a x : Float) {d₁ : List ℕ} {r : Frame} → Infrareds f.ir d d₁ r → to_verdict (second f t_a) d₁ ≡ to_verdict (second f x) d
+  onwards : (t_a x : Float) {d₁ : List ℕ} {r : Result Frame Refusal} → Infrareds f.ir d d₁ r → to_verdict (second f t_a) d₁ ≡ to_verdict (second f x) d
   unfolding to_verdict
   onwards t_a x i = ap (λ (n : ℕ). first_of (temperature_tests f.ir.settings.emissivity f.ranges.count f.ir.settings.basic_range (record { size = f.ir.size; table = length f.alpha; pixels = 2 * f.ir.size; destination = n; mask = length f.ir.mask }))) (same_length f.ir i)
 
-  written : {d₁ : List ℕ} {r : Frame} → ir_verdict f.ir d ≡ Verdict.Pass → Infrareds f.ir d d₁ r → d₁ ≡ into f.ir.size f.ir.mask (infrared_bits (infrared_at f.ir)) d
+  written : {d₁ : List ℕ} {r : Result Frame Refusal} → ir_verdict f.ir d ≡ Ok tt → Infrareds f.ir d d₁ r → d₁ ≡ into f.ir.size f.ir.mask (infrared_bits (infrared_at f.ir)) d
   written e i = left i e
 
   abbrev pass-bits : ℕ → ℕ
   pass-bits = temperature_bits (final_at (onward f) (infrared_at f.ir)) (infrared_at f.ir)
 
-  long : ir_verdict f.ir d ≡ Verdict.Pass → f.ir.size ≤ length d
+  long : ir_verdict f.ir d ≡ Ok tt → f.ir.size ≤ length d
   unfolding ir_verdict
   long e = (infrared-opened _ _ _ _ e).destination
 
-  stays : {x : Refusal} {d' : List ℕ} {p : Frame} (t_a : Float) → to_verdict (second f t_a) d ≡ Verdict.Refused x → Passes f d d' p → d' ≡ d
+  stays : {x : Refusal} {d' : List ℕ} {p : Result Frame Refusal} (t_a : Float) → to_verdict (second f t_a) d ≡ Err x → Passes f d d' p → d' ≡ d
   stays {x} t_a e p =
-      p.destination ∙ ap (λ (v : Verdict). unless v (into f.ir.size f.ir.mask pass-bits d) d) (by_tests t_a ∙ ap (earlier (ir_verdict f.ir d)) e)
+      p.destination ∙ ap (λ (v : Result ⊤ Refusal). unless v (into f.ir.size f.ir.mask pass-bits d) d) (by_tests t_a ∙ ap (earlier (ir_verdict f.ir d)) e)
       ∙ left_by (ir_verdict f.ir d) x (into f.ir.size f.ir.mask pass-bits d) d
 
   ambient-fits : T (fits binary32 (common f.ir).t_a)
   unfolding common common_of ambient_of
   ambient-fits = add-fits binary32 _ _
 
-  agree : {d₁ d₂ d' : List ℕ} {r q p : Frame} {t_a lost t n : ℕ} → Infrareds f.ir d d₁ r → r ≡ Done t_a lost
-      → Temperatures (second f (of_bits binary32 t_a)) d₁ d₂ q → q ≡ Done t n → Passes f d d' p → (p ≡ q) × (d' ≡ d₂)
+  agree : {d₁ d₂ d' : List ℕ} {r q p : Result Frame Refusal} {t_a lost t n : ℕ} → Infrareds f.ir d d₁ r → r ≡ Ok (frame_of t_a lost)
+      → Temperatures (second f (of_bits binary32 t_a)) d₁ d₂ q → q ≡ Ok (frame_of t n) → Passes f d d' p → (p ≡ q) × (d' ≡ d₂)
   agree {t_a = t_a} {lost = lost} {t = u} {n = n} i e t h p =
       let x = of_bits binary32 t_a in
       let a = done-passed (ir_verdict f.ir d) (sym i.answer ∙ e) in
       let b = done-passed (to_verdict (second f x) _) (sym t.answer ∙ h) in
       let same : x ≡ (common f.ir).t_a = ap (of_bits binary32) (sym a.1) ∙ of_bits-to_bits binary32 _ ambient-fits in
-      let passes : pass_verdict f d ≡ Verdict.Pass = by_tests x ∙ ap₂ earlier a.0 (sym (onwards x x i) ∙ b.0) in
+      let passes : pass_verdict f d ≡ Ok tt = by_tests x ∙ ap₂ earlier a.0 (sym (onwards x x i) ∙ b.0) in
       let w = written a.0 i in
       let l = long a.0 in (
-        answered p passes ∙ ap₂ Done (sym (ap (to_bits binary32) same) ∙ b.1) (sym (both-lost f d l same w) ∙ b.2) ∙ sym h,
+        answered p passes ∙ ap₂ (λ (a c : ℕ). Ok (frame_of a c)) (sym (ap (to_bits binary32) same) ∙ b.1) (sym (both-lost f d l same w) ∙ b.2) ∙ sym h,
         left p passes ∙ sym (both-into f d l same w) ∙ sym (left t b.0),
       )
 

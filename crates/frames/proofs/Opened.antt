@@ -5,8 +5,8 @@ use mathlib.Core.List.{List, ◌++◌}
 use lib.IntN.{ℤ}
 use lib.Ieee.{Float}
 use borrow.Author.Tests.{ltb-false, leb-false}
-use Rattle.refusal.specs.declared.Verdict.{Verdict}
-use Rattle.refusal.specs.declared.Verdict.TheVariants.{Pass, Refused}
+use Rattle.std.specs.Prelude.{⊤, Result, Ok, Err}
+use Rattle.refusal.specs.declared.Refusal.{Refusal}
 use Rattle.refusal.specs.Refusal.{unless}
 use Rattle.refusal.specs.Order.{Test, first_of}
 use Rattle.refusal.proofs.Order.{passed, in-turn, never}
@@ -28,8 +28,8 @@ pub record Open (l : Lengths) (ranges range : ℕ) : Type 0 where
   pub long : Long l
   pub within : range < ranges
 
-module _ (l : Lengths) (more : List Test) (e : first_of (length_tests l ++ more) ≡ Pass) where
-  long-and : Long l × (first_of more ≡ Pass)
+module _ (l : Lengths) (more : List Test) (e : first_of (length_tests l ++ more) ≡ Ok tt) where
+  long-and : Long l × (first_of more ≡ Ok tt)
   unfolding length_tests
   long-and =
       let t = passed _ _ _ e in
@@ -38,26 +38,26 @@ module _ (l : Lengths) (more : List Test) (e : first_of (length_tests l ++ more)
       let m = passed _ _ _ d.1 in
       (record { table = ltb-false _ _ t.0; pixels = ltb-false _ _ p.0; destination = ltb-false _ _ d.0; mask = ltb-false _ _ m.0 }, m.1)
 
-pub infrared-opened : (c : Constants) (e : Float) (ram : RamData) (l : Lengths) → first_of (infrared_tests c e ram l) ≡ Pass → Long l
+pub infrared-opened : (c : Constants) (e : Float) (ram : RamData) (l : Lengths) → first_of (infrared_tests c e ram l) ≡ Ok tt → Long l
 infrared-opened c e ram l p = (long-and l _ p).0
 
-opened-to : (l : Lengths) (ranges range : ℕ) (more : List Test) → first_of (length_tests l ++ (range_tests ranges range ++ more)) ≡ Pass → Open l ranges range
+opened-to : (l : Lengths) (ranges range : ℕ) (more : List Test) → first_of (length_tests l ++ (range_tests ranges range ++ more)) ≡ Ok tt → Open l ranges range
 unfolding range_tests
 opened-to l ranges range more p =
     let q = long-and l _ p in
     record { long = q.0; within = leb-false ranges range (passed _ _ _ q.1).0 }
 
-pub temperature-opened : (e : Float) (ranges range : ℕ) (l : Lengths) → first_of (temperature_tests e ranges range l) ≡ Pass → Open l ranges range
+pub temperature-opened : (e : Float) (ranges range : ℕ) (l : Lengths) → first_of (temperature_tests e ranges range l) ≡ Ok tt → Open l ranges range
 temperature-opened e ranges range l p = opened-to l ranges range _ p
 
-pub one-pass-opened : (c : Constants) (e : Float) (ram : RamData) (ranges range : ℕ) (l : Lengths) → first_of (one_pass_tests c e ram ranges range l) ≡ Pass → Open l ranges range
+pub one-pass-opened : (c : Constants) (e : Float) (ram : RamData) (ranges range : ℕ) (l : Lengths) → first_of (one_pass_tests c e ram ranges range l) ≡ Ok tt → Open l ranges range
 one-pass-opened c e ram ranges range l p = opened-to l ranges range _ p
 
 -- if both of two verdicts pass, the first does
-first_passes : (x y : Verdict) → unless x y x ≡ Pass → x ≡ Pass
-first_passes Pass y e = refl
-first_passes (Refused refusal) y e = absurd (never refusal e)
+first_passes : (x y : Result ⊤ Refusal) → unless x y x ≡ Ok tt → x ≡ Ok tt
+first_passes (Ok _) y e = refl
+first_passes (Err refusal) y e = absurd (never refusal e)
 
 pub ranged-opened : (c : Constants) (e : Float) (ram : RamData) (ranges range : ℕ) (l : Lengths) (corners : List ℤ)
-    → first_of (one_pass_tests c e ram ranges range l ++ corner_tests ranges corners) ≡ Pass → Open l ranges range
+    → first_of (one_pass_tests c e ram ranges range l ++ corner_tests ranges corners) ≡ Ok tt → Open l ranges range
 ranged-opened c e ram ranges range l corners p = one-pass-opened c e ram ranges range l (first_passes _ _ (in-turn _ _ ∙ p))

@@ -1,8 +1,6 @@
 -- Document 02, CR 11, for any camera: a filtered call is refused exactly when its plain form is, and while the filter has no average it equals the plain
 -- call. Assumes nothing.
-use Rattle.std.specs.Prelude.{◌≡◌, List, ℕ, Float}
-use Rattle.filter.specs.declared.Steadied.{Steadied}
-use Rattle.filter.specs.declared.Steadied.TheVariants.{NotYet}
+use Rattle.std.specs.Prelude.{◌≡◌, List, ℕ, Option, None, Float}
 use Rattle.frames.specs.Frames.{IrCall, PassCall, own_reading, steadied, ir_verdict, pass_verdict}
 use Rattle.frames.specs.Ranged.{ranged_verdict}
 
@@ -29,7 +27,7 @@ abbrev pub pass_with : PassCall → Float → PassCall
 pass_with f x = record { ir = with_reading f.ir x; ranges = f.ranges; alpha = f.alpha }
 
 -- the call with what a filter returned
-abbrev pub filtered_pass : PassCall → Steadied → PassCall
+abbrev pub filtered_pass : PassCall → Option Float → PassCall
 filtered_pass f x = pass_with f (steadied x f.ir.ram)
 
 -- the plain call, with the frame's own compensation reading
@@ -38,8 +36,8 @@ plain_pass f = pass_with f (own_reading f.ir.ram)
 
 -- for any call and any destination d, the filtered forms of infrared, one pass and second pass have the plain forms' verdicts
 pub record AsPlain (f : PassCall) (d : List ℕ) : Type 0 where
-  pub infrared : (x : Steadied) → ir_verdict (filtered_pass f x).ir d ≡ ir_verdict (plain_pass f).ir d
-  pub pass : (x : Steadied) → pass_verdict (filtered_pass f x) d ≡ pass_verdict (plain_pass f) d
-  pub ranged : (x : Steadied) → ranged_verdict (filtered_pass f x) d ≡ ranged_verdict (plain_pass f) d
-  -- with `NotYet` the calls are equal, and so is all that they promise
-  pub not_yet : filtered_pass f NotYet ≡ plain_pass f
+  pub infrared : (x : Option Float) → ir_verdict (filtered_pass f x).ir d ≡ ir_verdict (plain_pass f).ir d
+  pub pass : (x : Option Float) → pass_verdict (filtered_pass f x) d ≡ pass_verdict (plain_pass f) d
+  pub ranged : (x : Option Float) → ranged_verdict (filtered_pass f x) d ≡ ranged_verdict (plain_pass f) d
+  -- with `None` the calls are equal, and so is all that they promise
+  pub not_yet : filtered_pass f None ≡ plain_pass f

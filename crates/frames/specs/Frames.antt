@@ -1,13 +1,11 @@
 -- What the frame calls of any camera return, and the whole destination that they leave. Assumes nothing.
-use Rattle.std.specs.Prelude.{ℕ, min, ◌*◌, ◌≡◌, List, ℤ, get_or, length, Float}
+use Rattle.std.specs.Prelude.{ℕ, min, ◌*◌, ◌≡◌, List, ℤ, get_or, length, ⊤, Result, Ok, Err, Option, None, Some, Float}
 use Rattle.std.specs.Float.{nan, binary32}
 use Rattle.std.specs.Float.Ieee.{to_bits}
 use Rattle.floats.specs.Floats.{real}
 use Rattle.refusal.specs.Refusal.{unless}
 use Rattle.refusal.specs.Order.{first_of}
-use Rattle.refusal.specs.declared.Verdict.{Verdict}
-use Rattle.filter.specs.declared.Steadied.{Steadied}
-use Rattle.filter.specs.declared.Steadied.TheVariants.{NotYet, Average}
+use Rattle.refusal.specs.declared.Refusal.{Refusal}
 use Rattle.formulas.specs.declared.CommonIrData.{CommonIrData}
 use Rattle.formulas.specs.declared.Constants.{Constants}
 use Rattle.formulas.specs.declared.RamData.{RamData}
@@ -18,19 +16,22 @@ use Rattle.gates.specs.declared.Lengths.{Lengths}
 use Rattle.gates.specs.Gate.{infrared_tests, temperature_tests, one_pass_tests}
 use Rattle.pixels.specs.Pixels.{reading_at, held, infrared_bits, temperature_bits, into, lost_of}
 use Rattle.frames.specs.declared.Frame.{Frame}
-use Rattle.frames.specs.declared.Frame.TheVariants.{Done, Refused}
 
 -- ---- any frame call
 
+-- a frame with the two given numbers
+abbrev pub frame_of : ℕ → ℕ → Frame
+frame_of t_a lost = record { t_a = t_a; lost = lost }
+
 -- the refusal of a verdict, or else `done`
-abbrev pub answer_by : Verdict → Frame → Frame
-answer_by Verdict.Pass done = done
-answer_by (Verdict.Refused refusal) done = Refused refusal
+abbrev pub answer_by : Result ⊤ Refusal → Frame → Result Frame Refusal
+answer_by (Ok _) done = Ok done
+answer_by (Err refusal) done = Err refusal
 
 -- what a frame call does, with destination d before and d' after, and result r: if the verdict refuses, r is that refusal and d is unchanged; or else each of
 -- the n pixels that the mask asks for is written as `bits k`, and r holds t_a and the number of pixels written as NaN (0x7FC00000)
-pub record Writes (n : ℕ) (verdict : Verdict) (t_a : Float) (mask : List ℕ) (bits : ℕ → ℕ) (d d' : List ℕ) (r : Frame) : Type 0 where
-  pub answer : r ≡ answer_by verdict (Done (to_bits binary32 t_a) (lost_of n mask bits))
+pub record Writes (n : ℕ) (verdict : Result ⊤ Refusal) (t_a : Float) (mask : List ℕ) (bits : ℕ → ℕ) (d d' : List ℕ) (r : Result Frame Refusal) : Type 0 where
+  pub answer : r ≡ answer_by verdict (frame_of (to_bits binary32 t_a) (lost_of n mask bits))
   pub destination : d' ≡ unless verdict (into n mask bits d) d
 
 -- ---- pixels to infrared
@@ -57,9 +58,9 @@ abbrev pub own_reading : RamData → Float
 own_reading ram = real ram.compensation_pixel
 
 -- the compensation reading that the formulas use: a filter's average, or the frame's own reading if there is none yet
-abbrev pub steadied : Steadied → RamData → Float
-steadied NotYet ram = own_reading ram
-steadied (Average x) ram = x
+abbrev pub steadied : Option Float → RamData → Float
+steadied None ram = own_reading ram
+steadied (Some x) ram = x
 
 -- the four numbers that all pixels share
 unfoldable pub common : IrCall → CommonIrData
@@ -75,11 +76,11 @@ abbrev pub ir_lengths : IrCall → List ℕ → Lengths
 ir_lengths f d = record { size = f.size; table = f.table; pixels = length f.pixels; destination = length d; mask = length f.mask }
 
 -- the first refusal, or a pass
-unfoldable pub ir_verdict : IrCall → List ℕ → Verdict
+unfoldable pub ir_verdict : IrCall → List ℕ → Result ⊤ Refusal
 ir_verdict f d = first_of (infrared_tests f.constants f.settings.emissivity f.ram (ir_lengths f d))
 
 -- what the call does: it writes infrared values
-abbrev pub Infrareds : IrCall → List ℕ → List ℕ → Frame → Type 0
+abbrev pub Infrareds : IrCall → List ℕ → List ℕ → Result Frame Refusal → Type 0
 Infrareds f d d' r = Writes f.size (ir_verdict f d) (common f).t_a f.mask (infrared_bits (infrared_at f)) d d' r
 
 -- ---- infrared to temperature
@@ -118,11 +119,11 @@ abbrev pub to_lengths : ToCall → List ℕ → Lengths
 to_lengths f d = record { size = f.size; table = length f.alpha; pixels = 2 * f.size; destination = length d; mask = length f.mask }
 
 -- the first refusal, or a pass
-unfoldable pub to_verdict : ToCall → List ℕ → Verdict
+unfoldable pub to_verdict : ToCall → List ℕ → Result ⊤ Refusal
 to_verdict f d = first_of (temperature_tests f.settings.emissivity f.ranges.count f.settings.basic_range (to_lengths f d))
 
 -- what the call does: it writes temperatures of the infrared values that the destination holds
-abbrev pub Temperatures : ToCall → List ℕ → List ℕ → Frame → Type 0
+abbrev pub Temperatures : ToCall → List ℕ → List ℕ → Result Frame Refusal → Type 0
 Temperatures f d d' r =
     Writes f.size (to_verdict f d) f.ambient f.mask (temperature_bits (final_at f (held d)) (held d)) d d' r
 
@@ -155,12 +156,12 @@ abbrev pub pass_lengths : PassCall → List ℕ → Lengths
 pass_lengths f d = record { size = f.ir.size; table = min (length f.alpha) f.ir.table; pixels = length f.ir.pixels; destination = length d; mask = length f.ir.mask }
 
 -- the first refusal, or a pass
-unfoldable pub pass_verdict : PassCall → List ℕ → Verdict
+unfoldable pub pass_verdict : PassCall → List ℕ → Result ⊤ Refusal
 pass_verdict f d =
     first_of (one_pass_tests f.ir.constants f.ir.settings.emissivity f.ir.ram f.ranges.count f.ir.settings.basic_range (pass_lengths f d))
 
 -- what the call does: it writes temperatures
-abbrev pub Passes : PassCall → List ℕ → List ℕ → Frame → Type 0
+abbrev pub Passes : PassCall → List ℕ → List ℕ → Result Frame Refusal → Type 0
 Passes f d d' r =
     Writes f.ir.size (pass_verdict f d) (common f.ir).t_a f.ir.mask
     (temperature_bits (final_at (onward f) (infrared_at f.ir)) (infrared_at f.ir)) d d' r

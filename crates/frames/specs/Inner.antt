@@ -1,8 +1,8 @@
 -- For inner functions only: the records of Frames built from the caller's slices, and what a call does, by what is wanted. Assumes nothing.
-use Rattle.std.specs.Prelude.{ℕ, min, ◌*◌, ◌<◌, true, List, ◌++◌, T, ℤ, pos, get_or, Float}
+use Rattle.std.specs.Prelude.{ℕ, min, ◌*◌, ◌<◌, true, List, ◌++◌, T, ℤ, pos, get_or, ⊤, Result, Float}
 use Rattle.std.specs.Float.{nan}
 use Rattle.floats.specs.Floats.{real}
-use Rattle.refusal.specs.declared.Verdict.{Verdict}
+use Rattle.refusal.specs.declared.Refusal.{Refusal}
 use Rattle.refusal.specs.Order.{Test}
 use Rattle.roots.specs.Many.{side}
 use Rattle.ranges.specs.Corners.{corner_tests}
@@ -67,7 +67,7 @@ tests_of Ranged c corners alpha l =
     one_pass_tests c.constants c.settings.emissivity c.ram c.ranges c.settings.basic_range (shorter l alpha) ++ corner_tests c.ranges corners
 
 -- the first refusal of a call, or a pass
-abbrev pub verdict_of : Wanted → PassCall → List ℕ → Verdict
+abbrev pub verdict_of : Wanted → PassCall → List ℕ → Result ⊤ Refusal
 verdict_of Infrared f d = ir_verdict f.ir d
 verdict_of Temperature f d = pass_verdict f d
 verdict_of Ranged f d = ranged_verdict f d
@@ -79,7 +79,7 @@ made_bits Temperature f k = temperature_bits (final_at (onward f) (infrared_at f
 made_bits Ranged f k = temperature_bits (ranged_at (onward f) (infrared_at f.ir)) (infrared_at f.ir) k
 
 -- what the call does: `Infrareds`, `Passes` or `RangedPasses`
-abbrev pub Makes : Wanted → PassCall → List ℕ → List ℕ → Frame → Type 0
+abbrev pub Makes : Wanted → PassCall → List ℕ → List ℕ → Result Frame Refusal → Type 0
 Makes w f d d' r = Writes f.ir.size (verdict_of w f d) (common f.ir).t_a f.ir.mask (made_bits w f) d d' r
 
 -- if temperatures are wanted, the basic range is an index below n

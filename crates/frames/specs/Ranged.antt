@@ -1,10 +1,10 @@
 -- Document 02, CR 9: the second pass. A pixel's basic temperature, as one pass computes it, selects the range that holds it; that range's numbers give the
 -- temperature that is written. Assumes nothing.
-use Rattle.std.specs.Prelude.{ℕ, List, ◌++◌, pos, get_or, Float}
+use Rattle.std.specs.Prelude.{ℕ, List, ◌++◌, pos, get_or, ⊤, Result, Float}
 use Rattle.std.specs.Float.{nan}
 use Rattle.floats.specs.Floats.{real}
 use Rattle.root.specs.Root.{celsius}
-use Rattle.refusal.specs.declared.Verdict.{Verdict}
+use Rattle.refusal.specs.declared.Refusal.{Refusal}
 use Rattle.refusal.specs.Order.{first_of}
 use Rattle.ranges.specs.Corners.{corner_tests, range_of}
 use Rattle.formulas.specs.declared.Range.{Range}
@@ -26,13 +26,13 @@ ranged_at f v k =
     ranged_of (range_at g (range_of g.count g.corners basic)) (reflected_term f) (sensitivity_at f k) (v k) basic
 
 -- the first refusal, or a pass: the tests of one pass, and then 12
-unfoldable pub ranged_verdict : PassCall → List ℕ → Verdict
+unfoldable pub ranged_verdict : PassCall → List ℕ → Result ⊤ Refusal
 ranged_verdict f d =
     first_of (one_pass_tests f.ir.constants f.ir.settings.emissivity f.ir.ram f.ranges.count f.ir.settings.basic_range (pass_lengths f d)
     ++ corner_tests f.ranges.count f.ranges.corners)
 
 -- what the call does: it writes temperatures of the second pass
-abbrev pub RangedPasses : PassCall → List ℕ → List ℕ → Frame → Type 0
+abbrev pub RangedPasses : PassCall → List ℕ → List ℕ → Result Frame Refusal → Type 0
 RangedPasses f d d' r =
     Writes f.ir.size (ranged_verdict f d) (common f.ir).t_a f.ir.mask
     (temperature_bits (ranged_at (onward f) (infrared_at f.ir)) (infrared_at f.ir)) d d' r

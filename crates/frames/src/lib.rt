@@ -12,7 +12,6 @@ ghost use Rattle.pixels.specs.Inner.{lent, Tabled};
 ghost use Rattle.frames.specs.Frames.{own_reading, steadied, Temperatures};
 ghost use Rattle.frames.specs.Inner.{any_ir, ranges_of, any_pass, shorter, tests_of, Makes, InRange, goal_by, any_to};
 
-use filter::Steadied;
 use formulas::{CommonToData, Constants, RamData, Settings};
 use gates::Lengths;
 use offsets::Offset;
@@ -20,11 +19,11 @@ use pixels::{Goal, Source, Work};
 use refusal::{Refusal, Verdict};
 use roots::SIDE;
 
-// What a frame call returns: the bits of the ambient temperature and the number of pixels that this call wrote as NaN (0x7FC00000), or the refusal.
-#[derive(Clone, Copy)]
-pub enum Frame {
-    Done { t_a: u32, lost: usize },
-    Refused(Refusal),
+// What a frame call returns: the bits of the ambient temperature, and the number of pixels that this call wrote as NaN (0x7FC00000).
+#[derive(Clone, Copy, Debug, PartialEq, Eq)]
+pub struct Frame {
+    pub t_a: u32,
+    pub lost: usize,
 }
 
 // What a call from pixels writes: infrared values, temperatures in one pass, or temperatures by the second pass.
@@ -60,12 +59,12 @@ pub fn own_reading(ram: RamData) -> f32
 }
 
 // Returns the compensation reading that the formulas use: the filter's average, or the frame's own reading while the filter has no average.
-pub fn steadied(compensation: Steadied, ram: RamData) -> f32
+pub fn steadied(compensation: Option<f32>, ram: RamData) -> f32
     ensures { result ≡ steadied compensation ram }
 {
     match compensation {
-        Steadied::NotYet => own_reading(ram),
-        Steadied::Average(average) => average,
+        None => own_reading(ram),
+        Some(average) => average,
     }
 }
 
@@ -115,8 +114,8 @@ fn gate(call: Call, lengths: Lengths, alpha: usize, corners: &[i16]) -> Verdict
         }
         Wanted::Temperature => pass_gate(call, lengths, alpha),
         Wanted::Ranged => {
-            let first = pass_gate(call, lengths, alpha);
-            first.then(ranges::corner_gate(wide(call.ranges), corners))
+            pass_gate(call, lengths, alpha)?;
+            ranges::corner_gate(wide(call.ranges), corners)
         }
     }
 }
@@ -162,7 +161,7 @@ pub fn from_pixels(
     k_s_to: &[f32],
     coefficients: &[f32],
     destination: &mut [u32],
-) -> Frame
+) -> Result<Frame, Refusal>
     requires blocks_bound { (call.blocks ≤ 1000) × (call.blocks * side ≤ call.table → Tabled (lent pixels.now offsets.now k_ta.now k_v.now call.k_v_blocks access.now call.access_blocks) call.blocks) }
     requires ranges_nonzero { (0 < call.ranges) × (call.ranges ≤ length corners.now) × (call.ranges ≤ length k_s_to.now) × (call.ranges ≤ length coefficients.now) }
     ensures { Makes call.wanted (any_pass (any_ir call pixels.now offsets.now k_ta.now k_v.now access.now mask.now)
@@ -176,10 +175,7 @@ pub fn from_pixels(
         destination: destination.len(),
         mask: mask.len(),
     };
-    let verdict = gate(call, lengths, alpha.len(), corners);
-    if let Verdict::Refused(refusal) = verdict {
-        return Frame::Refused(refusal);
-    }
+    gate(call, lengths, alpha.len(), corners)?;
     let constants = call.constants;
     let settings = call.settings;
     let ram = call.ram;
@@ -206,10 +202,10 @@ pub fn from_pixels(
         coefficients,
         destination,
     );
-    Frame::Done {
+    Ok(Frame {
         t_a: floats::to_bits(common.t_a),
         lost,
-    }
+    })
 }
 
 // Turns infrared values into temperatures, in place, both as f32 bits. The ambient temperature is the caller's, and is returned.
@@ -223,7 +219,7 @@ pub fn from_infrared(
     alpha: &[f32],
     mask: &[u8],
     destination: &mut [u32],
-) -> Frame
+) -> Result<Frame, Refusal>
     requires { (blocks ≤ 1000) × (ranges ≤ length k_s_to.now) }
     ensures { (corners : List ℤ) (coefficients : List Float) → Temperatures (any_to constants settings t_a blocks (ranges_of ranges corners k_s_to.now coefficients) alpha.now mask.now)
         destination.old destination.new result }
@@ -236,15 +232,7 @@ pub fn from_infrared(
         destination: destination.len(),
         mask: mask.len(),
     };
-    let verdict = gates::temperature_gate(
-        settings.emissivity,
-        ranges,
-        settings.basic_range,
-        lengths,
-    );
-    if let Verdict::Refused(refusal) = verdict {
-        return Frame::Refused(refusal);
-    }
+    gates::temperature_gate(settings.emissivity, ranges, settings.basic_range, lengths)?;
     let work = Work {
         blocks,
         k_v_blocks: 0,
@@ -269,8 +257,8 @@ pub fn from_infrared(
         k_s_to,
         destination,
     );
-    Frame::Done {
+    Ok(Frame {
         t_a: floats::to_bits(t_a),
         lost,
-    }
+    })
 }

@@ -2,6 +2,7 @@
 use mathlib.Core.Path.{◌≡◌, sym, ap, ◌∙◌}
 use native.Mathlib.Omega.{arith}
 use lib.Ieee.{binary32, to_bits}
+use Rattle.std.proofs.lemmas.Result.{err_from_is_err_and}
 use Rattle.formulas.specs.declared.CommonIrData.{CommonIrData}
 use Rattle.formulas.specs.Frame.{common_of}
 use Rattle.pixels.proofs.Blocks.{workable}
@@ -15,26 +16,27 @@ common-is : (f : IrCall) {x : CommonIrData} → x ≡ common_of f.constants f.se
 unfolding common
 common-is f e = e
 
-pub returns-in-Refused : goal.returns-in-Refused
-returns-in-Refused c =
+pub returns-in_err-gate : goal.returns-in_err-gate
+returns-in_err-gate c =
     let a = c.args in
-    let gated = c.gate-verdict.ensures
+    let gated = c.gate.ensures
     ∙ by.verdict-is a.call a.pixels.now a.offsets.now a.k_ta.now a.k_v.now a.access.now a.mask.now a.corners.now a.k_s_to.now a.coefficients.now a.alpha.now a.call.wanted a.destination.now in
-    refused (sym gated ∙ c.in-Refused.is)
+    let p = err_from_is_err_and c.from_residual.result c.from_residual.ensures.1 in
+    refused (sym gated ∙ c.in_err-gate.was) p.1 p.2
 
 pub goal_of-requires : goal.goal_of-requires
 goal_of-requires c =
     let a = c.args in
-    let gated = c.gate-verdict.ensures
+    let gated = c.gate.ensures
     ∙ by.verdict-is a.call a.pixels.now a.offsets.now a.k_ta.now a.k_v.now a.access.now a.mask.now a.corners.now a.k_s_to.now a.coefficients.now a.alpha.now a.call.wanted a.destination.now in
-    (by.opened a.call a.pixels.now a.offsets.now a.k_ta.now a.k_v.now a.access.now a.mask.now a.corners.now a.k_s_to.now a.coefficients.now a.alpha.now a.call.wanted a.destination.now c.requires.ranges_nonzero (sym gated ∙ c.in_default.is)).in-range
+    (by.opened a.call a.pixels.now a.offsets.now a.k_ta.now a.k_v.now a.access.now a.mask.now a.corners.now a.k_s_to.now a.coefficients.now a.alpha.now a.call.wanted a.destination.now c.requires.ranges_nonzero (sym gated ∙ c.in_ok-gate.was)).in-range
 
 pub frame_pixels-lost-requires : goal.frame_pixels-lost-requires
 frame_pixels-lost-requires c =
     let a = c.args in
-    let gated = c.gate-verdict.ensures
+    let gated = c.gate.ensures
     ∙ by.verdict-is a.call a.pixels.now a.offsets.now a.k_ta.now a.k_v.now a.access.now a.mask.now a.corners.now a.k_s_to.now a.coefficients.now a.alpha.now a.call.wanted a.destination.now in
-    let o = by.opened a.call a.pixels.now a.offsets.now a.k_ta.now a.k_v.now a.access.now a.mask.now a.corners.now a.k_s_to.now a.coefficients.now a.alpha.now a.call.wanted a.destination.now c.requires.ranges_nonzero (sym gated ∙ c.in_default.is) in
+    let o = by.opened a.call a.pixels.now a.offsets.now a.k_ta.now a.k_v.now a.access.now a.mask.now a.corners.now a.k_s_to.now a.coefficients.now a.alpha.now a.call.wanted a.destination.now c.requires.ranges_nonzero (sym gated ∙ c.in_ok-gate.was) in
     let l = o.long in
     let p = c.requires.blocks_bound in
     record {
@@ -49,9 +51,9 @@ returns c =
     let w = c.frame_pixels-lost.ensures in
     let ir : IrCall = any_ir a.call a.pixels.now a.offsets.now a.k_ta.now a.k_v.now a.access.now a.mask.now in
     let pass : PassCall = any_pass ir (ranges_of a.call.ranges a.corners.now a.k_s_to.now a.coefficients.now) a.alpha.now in
-    let gated = c.gate-verdict.ensures
+    let gated = c.gate.ensures
     ∙ by.verdict-is a.call a.pixels.now a.offsets.now a.k_ta.now a.k_v.now a.access.now a.mask.now a.corners.now a.k_s_to.now a.coefficients.now a.alpha.now a.call.wanted a.destination.now in
     let shared = common-is ir c.common_ir_data-common.ensures in
     same_bits (made_bits a.call.wanted pass)
     (λ k h _. by.bits_are a.call a.pixels.now a.offsets.now a.k_ta.now a.k_v.now a.access.now a.mask.now a.corners.now a.k_s_to.now a.coefficients.now a.alpha.now a.call.wanted a.destination.now k shared c.compensation-deduction.ensures c.goal_of.ensures)
-    (done (sym gated ∙ c.in_default.is) (c.to_bits.ensures ∙ ap (λ (x : CommonIrData). to_bits binary32 x.t_a) shared) w.count w.destination)
+    (done (sym gated ∙ c.in_ok-gate.was) (c.to_bits.ensures ∙ ap (λ (x : CommonIrData). to_bits binary32 x.t_a) shared) w.count w.destination)
