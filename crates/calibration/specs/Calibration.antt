@@ -1,7 +1,7 @@
 -- The calibration record: document 01's map, words 34 to 63, field by field. `w` gives the data of a word by its number; `b` is the basic range, at
 -- which the range coefficients of document 02, CR 9, are 1. `word_of` is the map's, `signed` takes a width, `combined` an upper and a lower word, and
 -- `over` divides by a power of two. Assumes nothing.
-use Rattle.std.specs.Prelude.{ℕ, ◌/◌, ◌%◌, ◌^◌, [], ◌∷◌, ℤ, pos, ◌*ℤ◌, replicate, Float}
+use Rattle.std.specs.Prelude.{ℕ, ◌/◌, ◌%◌, ◌^◌, [], ◌∷◌, ℤ, pos, ◌*ℤ◌, replicate, Float, Some, None}
 use Rattle.floats.specs.Floats.{real, over}
 use Rattle.floats.specs.Constants.{plus_zero}
 use Rattle.util.specs.Fields.{minus, signed, combined}
@@ -10,7 +10,6 @@ use Rattle.map.specs.declared.Field.TheVariants.{KSTa, Emissivity, Gain, VDd25, 
 use Rattle.map.specs.Map.{word_of}
 use Rattle.calibration.specs.declared.Calibration.{Calibration}
 use Rattle.calibration.specs.declared.Ranges.{Ranges}
-use Rattle.camera.specs.declared.Gradient.TheVariants.{Coefficient, Missing}
 use Rattle.calibration.specs.Coefficients.{range_count, coefficients_of}
 
 -- the data of a field of one word
@@ -61,7 +60,7 @@ calibration_of w b = record {
   k_ta_cp = low_over 6 (single w KTaCp);
   k_v_cp = low_over 6 (single w KVCp);
   resolution = resolution_of (single w Gradient);
-  temperature_gradient_coefficient = Coefficient (over (signed 9 (single w Gradient)) 6);
+  temperature_gradient_coefficient = Some (over (signed 9 (single w Gradient)) 6);
   k_s_to = (ranges_of w).k_s_to;
   corner_temperatures = (ranges_of w).corner_temperatures;
   range_coefficients = coefficients_of (ranges_of w) b;
@@ -84,7 +83,7 @@ no_calibration = record {
   k_ta_cp = plus_zero;
   k_v_cp = plus_zero;
   resolution = 0;
-  temperature_gradient_coefficient = Missing;
+  temperature_gradient_coefficient = None;
   k_s_to = replicate range_count plus_zero;
   corner_temperatures = replicate range_count (pos 0);
   range_coefficients = replicate range_count plus_zero;

@@ -1,5 +1,6 @@
 // The range coefficients of a card (document 02, CR 9), and the range whose coefficient would be divided by zero.
 ghost use Rattle.std.specs.Prelude.{◌≡◌, ◌<◌};
+ghost use Rattle.util.specs.Found.{found_below};
 ghost use Rattle.calibration.specs.Coefficients.{range_count, coefficients_of, zero_factor};
 
 use super::Ranges;
@@ -17,10 +18,10 @@ pub fn coefficients(ranges: Ranges, basic_range: usize) -> [f32; 8]
     coefficients
 }
 
-// Returns the range nearest below the basic one whose coefficient would be divided by zero, or 8 if there is none.
-pub fn zero_factor(ranges: Ranges, basic_range: usize) -> usize
+// Returns the range nearest below the basic one whose coefficient would be divided by zero, if there is one.
+pub fn zero_factor(ranges: Ranges, basic_range: usize) -> Option<usize>
     requires { basic_range < range_count }
-    ensures { result ≡ zero_factor ranges basic_range }
+    ensures { result ≡ found_below range_count (zero_factor ranges basic_range) }
 {
     let corners = ranges.corner_temperatures;
     let k_s_to = ranges.k_s_to;

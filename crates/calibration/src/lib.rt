@@ -6,6 +6,7 @@ mod coefficients;
 ghost use Rattle.std.specs.Prelude.{◌≡◌, ℕ, ◌+◌, ◌<◌, ◌≤◌, pos};
 ghost use Rattle.floats.specs.Floats.{over};
 ghost use Rattle.util.specs.Fields.{signed};
+ghost use Rattle.util.specs.Found.{found_below};
 ghost use Rattle.hamming.specs.Word.{data_values};
 ghost use Rattle.map.specs.Map.{card_words};
 ghost use Rattle.card.specs.Inner.{at};
@@ -13,7 +14,6 @@ ghost use Rattle.calibration.specs.Calibration.{low_over, resolution_of, ranges_
 ghost use Rattle.calibration.specs.Coefficients.{range_count, zero_factor};
 ghost use Rattle.calibration.specs.Inner.{card_of, sensing_of, references_of, ptat_of, compensation_of, range_at};
 
-use camera::Gradient;
 use card::Cursor;
 use map::Words;
 
@@ -36,7 +36,7 @@ pub struct Calibration {
     pub offset_reference_cp: i16,
     pub k_v_cp: f32,
     pub k_ta_cp: f32,
-    pub temperature_gradient_coefficient: Gradient,
+    pub temperature_gradient_coefficient: Option<f32>,
     pub range_coefficients: [f32; 8],
 }
 
@@ -72,7 +72,7 @@ pub struct Compensation {
     pub k_ta_cp: f32,
     pub k_v_cp: f32,
     pub resolution: u8,
-    pub temperature_gradient_coefficient: Gradient,
+    pub temperature_gradient_coefficient: Option<f32>,
 }
 
 // A corner temperature and the K_sTo of the range that starts there, with the cursor after them.
@@ -187,7 +187,7 @@ fn read_compensation(words: &Words) -> Compensation
         k_ta_cp: low_over(k_ta.value, 6),
         k_v_cp: low_over(k_v.value, 6),
         resolution: resolution_of(last.value),
-        temperature_gradient_coefficient: Gradient::Coefficient(gradient),
+        temperature_gradient_coefficient: Some(gradient),
     }
 }
 
@@ -198,11 +198,10 @@ fn read_range(words: &Words, power: u16, start: Cursor) -> Range
 {
     let temperature = start.plain(words);
     let k_s_to = temperature.next.scaled(words, power);
-    let next = k_s_to.next;
     Range {
         corner: corner(temperature.value),
         k_s_to: k_s_to.value,
-        next,
+        next: k_s_to.next,
     }
 }
 
@@ -234,11 +233,11 @@ fn read_ranges(words: &Words) -> Ranges
     }
 }
 
-// Returns the range nearest below the basic one whose coefficient would be divided by zero, or 8 if there is none, from the data of a card's words.
-pub fn zero_factor(words: &Words, basic_range: usize) -> usize
+// Returns the range nearest below the basic one whose coefficient would be divided by zero, if there is one, from the data of a card's words.
+pub fn zero_factor(words: &Words, basic_range: usize) -> Option<usize>
     requires by_index { (k : ℕ) → at words.now k < data_values }
     requires basic_range_lt_range_count { basic_range < range_count }
-    ensures { result ≡ zero_factor (ranges_of (at words.now)) basic_range }
+    ensures { result ≡ found_below range_count (zero_factor (ranges_of (at words.now)) basic_range) }
 {
     coefficients::zero_factor(read_ranges(words), basic_range)
 }
@@ -304,7 +303,7 @@ pub fn no_calibration() -> Calibration
         offset_reference_cp: 0,
         k_v_cp: 0.0,
         k_ta_cp: 0.0,
-        temperature_gradient_coefficient: Gradient::Missing,
+        temperature_gradient_coefficient: None,
         range_coefficients,
     }
 }

@@ -2,7 +2,8 @@
 use mathlib.Core.Path.{◌≡◌, ap, ◌∙◌}
 use Rattle.map.proofs.Words.{places}
 use Rattle.card.specs.Inner.{at, real_at, times32_at}
-use Rattle.card.specs.declared.Signed.{Signed}
+use Rattle.card.specs.declared.Field.{Field}
+use lib.IntN.{ℤ}
 use Rattle.card.proofs.Times.{times-back}
 use Rattle.calibration.specs.Calibration.{calibration_of}
 use Rattle.calibration.proofs.read_references.Goals as goal
@@ -12,8 +13,8 @@ unfolding calibration_of
 returns c =
     let v = c.args.words.now in
     let w = at v in
-    let at39 : c.times_32-k_v_dd.result ≡ times32_at v 39 = c.times_32-k_v_dd.ensures ∙ ap (λ (r : Signed). times32_at v r.next.word) c.times_32-v_dd_25.ensures in
-    let at40 : c.real-v_ptat_25.result ≡ real_at v 40 = c.real-v_ptat_25.ensures ∙ ap (λ (r : Signed). real_at v r.next.word) at39 in
+    let at39 : c.times_32-k_v_dd.result ≡ times32_at v 39 = c.times_32-k_v_dd.ensures ∙ ap (λ (r : Field ℤ). times32_at v r.next.word) c.times_32-v_dd_25.ensures in
+    let at40 : c.real-v_ptat_25.result ≡ real_at v 40 = c.real-v_ptat_25.ensures ∙ ap (λ (r : Field ℤ). real_at v r.next.word) at39 in
     rw (
       c.times_32-v_dd_25.ensures,
       at39,
