@@ -17,8 +17,7 @@ use Rattle.floats.proofs.Bound.{Some, some-not-zero}
 use Rattle.floats.proofs.Ratio.{large, Ratio, over-ratio, times-ratio, one-some, no-five}
 use Rattle.refusal.specs.declared.Refusal.{Refusal}
 use Rattle.refusal.specs.declared.Refusal.TheVariants.{ZeroFactor}
-use Rattle.refusal.specs.declared.Verdict.{Verdict}
-use Rattle.refusal.specs.declared.Verdict.TheVariants.{Refused}
+use Rattle.std.specs.Prelude.{⊤, Result, Err}
 use Rattle.refusal.specs.Order.{Test, ◌refuses◌, first_of}
 use Rattle.refusal.specs.Refusal.{told_of, verdict_told}
 use Rattle.refusal.proofs.Order.{never}
@@ -90,13 +89,13 @@ no_zero w range h = none.no_zero range_count (corners_at w) (k_s_tos w) range (�
 -- ---- no load is refused for it
 
 -- another refusal is not it, so its test does not hold
-other : (holds : Bool) (refusal : Refusal) (rest : List Test) (at : ℕ) → ((told_of refusal).number ≡ 13 → ⊥) → first_of (holds refuses refusal ∷ rest) ≡ Refused (ZeroFactor at)
-    → (holds ≡ false) × (first_of rest ≡ Refused (ZeroFactor at))
+other : (holds : Bool) (refusal : Refusal) (rest : List Test) (at : ℕ) → ((told_of refusal).number ≡ 13 → ⊥) → first_of (holds refuses refusal ∷ rest) ≡ Err (ZeroFactor at)
+    → (holds ≡ false) × (first_of rest ≡ Err (ZeroFactor at))
 unfolding first_of
-other true refusal rest at ne e = absurd (ne (ap (λ (v : Verdict). (verdict_told v).number) e))
+other true refusal rest at ne e = absurd (ne (ap (λ (v : Result ⊤ Refusal). (verdict_told v).number) e))
 other false refusal rest at ne e = (refl, e)
 
-alone : (holds : Bool) (refusal : Refusal) (at : ℕ) → holds ≡ false → first_of (holds refuses refusal ∷ []) ≡ Refused (ZeroFactor at) → ⊥
+alone : (holds : Bool) (refusal : Refusal) (at : ℕ) → holds ≡ false → first_of (holds refuses refusal ∷ []) ≡ Err (ZeroFactor at) → ⊥
 unfolding first_of
 alone true refusal at h e = true≢false h
 alone false refusal at h e = never (ZeroFactor at) (sym e)

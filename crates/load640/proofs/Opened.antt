@@ -5,7 +5,7 @@ use mathlib.Core.List.{List}
 use native.Mathlib.Omega.{arith}
 use lib.ListN.{length}
 use borrow.Author.Tests.{ltb-false, leb-false}
-use Rattle.refusal.specs.declared.Verdict.TheVariants.{Pass}
+use Rattle.std.specs.Prelude.{Ok}
 use Rattle.refusal.proofs.Order.{passed}
 use Rattle.sums640.specs.Sums.{pixel_count}
 use Rattle.load640.specs.Load.{Tables, data_tests, load_tests, load_verdict}
@@ -14,7 +14,7 @@ use Rattle.load640.specs.Inner.{Passed}
 each : (a b c : ℕ) → pixel_count ≤ min a (min b c) → (pixel_count ≤ a) × (pixel_count ≤ b) × (pixel_count ≤ c)
 each a b c h = (omega arith, omega arith, omega arith)
 
-pub opened : (image : List ℕ) (range : ℕ) (t : Tables) → load_verdict image range t ≡ Pass → Passed image range t
+pub opened : (image : List ℕ) (range : ℕ) (t : Tables) → load_verdict image range t ≡ Ok tt → Passed image range t
 unfolding load_tests data_tests
 opened image range t e =
     let p = passed _ _ _ e in

@@ -1,16 +1,16 @@
 -- The MLX90640's paper, "When the gate says stop": what stops a load, lowest number first, and what a load leaves. `wordAt image` are a card's words.
 -- Assumes nothing.
-use Rattle.std.specs.Prelude.{ℕ, min, ◌≡◌, List, [], ◌∷◌, leb, ltb, ℤ, length, Float}
+use Rattle.std.specs.Prelude.{ℕ, min, ◌≡◌, List, [], ◌∷◌, leb, ltb, ℤ, length, Float, ⊤, Result, Ok, Err}
 use Rattle.lists.specs.Written.{filled}
 use Rattle.refusal.specs.declared.Refusal.TheVariants.{ShortImage, ShortTable, LargePixel, BasicRange, ZeroFactor}
-use Rattle.refusal.specs.declared.Verdict.{Verdict}
+use Rattle.refusal.specs.declared.Refusal.{Refusal}
 use Rattle.refusal.specs.Refusal.{unless}
 use Rattle.refusal.specs.Order.{Test, ◌refuses◌, first_of}
 use Rattle.util.specs.Words.{word_at}
 use Rattle.ranges.specs.Coefficients.{zero_factor}
 use Rattle.sums640.specs.Sums.{pixel_count, offset_at, alpha_at, k_ta_at, first_outside}
-use Rattle.record640.specs.Record.{corners_at, k_s_tos, calibration_of, no_calibration}
-use Rattle.load640.specs.declared.Loaded.{Loaded}
+use Rattle.record640.specs.Record.{corners_at, k_s_tos, calibration_of}
+use Rattle.record640.specs.declared.Calibration.{Calibration}
 
 abbrev pub image_bytes : ℕ
 image_bytes = 1664
@@ -56,13 +56,17 @@ load_tests image range table =
     ∷ ltb table pixel_count refuses ShortTable
     ∷ data_tests (word_at image) range
 
-abbrev pub load_verdict : List ℕ → ℕ → Tables → Verdict
+abbrev pub load_verdict : List ℕ → ℕ → Tables → Result ⊤ Refusal
 load_verdict image range t = first_of (load_tests image range (shortest t))
 
 -- ---- the promise
 
+-- the answer of a load: the record if nothing is refused, else the refusal
+abbrev pub answer_of : Result ⊤ Refusal → Calibration → Result Calibration Refusal
+answer_of (Ok _) calibration = Ok calibration
+answer_of (Err refusal) calibration = Err refusal
+
 -- what a load says of its image, the basic range, the tables before and after, and its answer
-pub record Loads (image : List ℕ) (range : ℕ) (before after : Tables) (r : Loaded) : Type 0 where
-  pub verdict : r.verdict ≡ load_verdict image range before
-  pub calibration : r.calibration ≡ unless r.verdict (calibration_of (word_at image) range) no_calibration
-  pub lent : after ≡ unless r.verdict (filled_tables (word_at image) before) before
+pub record Loads (image : List ℕ) (range : ℕ) (before after : Tables) (r : Result Calibration Refusal) : Type 0 where
+  pub answer : r ≡ answer_of (load_verdict image range before) (calibration_of (word_at image) range)
+  pub lent : after ≡ unless (load_verdict image range before) (filled_tables (word_at image) before) before

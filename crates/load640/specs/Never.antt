@@ -1,7 +1,6 @@
 -- The MLX90640's paper, "When the gate says stop": 13 never holds, whatever the card says. Assumes nothing.
-use Rattle.std.specs.Prelude.{ℕ, ◌<◌, ◌≡◌, List}
+use Rattle.std.specs.Prelude.{ℕ, ◌<◌, ◌≡◌, List, Err}
 use Rattle.refusal.specs.declared.Refusal.TheVariants.{ZeroFactor}
-use Rattle.refusal.specs.declared.Verdict.TheVariants.{Refused}
 use Rattle.load640.specs.Load.{range_count, Tables, zero_range, load_verdict}
 
 -- no range below a basic one has a coefficient that is divided by a zero
@@ -10,4 +9,4 @@ NoZero = (w : ℕ → ℕ) (range : ℕ) → range < range_count → zero_range 
 
 -- so no load is refused for it
 abbrev pub Never : Type 0
-Never = (image : List ℕ) (range : ℕ) (t : Tables) (at : ℕ) → load_verdict image range t ≡ Refused (ZeroFactor at) → ⊥
+Never = (image : List ℕ) (range : ℕ) (t : Tables) (at : ℕ) → load_verdict image range t ≡ Err (ZeroFactor at) → ⊥

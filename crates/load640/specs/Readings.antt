@@ -1,13 +1,11 @@
 -- The MLX90640's paper, "Readings to try": those of a card that are marked P (proved), as one list. In each, all words that are not named are 0.
 -- Assumes nothing.
-use Rattle.std.specs.Prelude.{ℕ, ◌≡◌, List, [], ◌∷◌, eqb, ℤ, pos, neg_ℤ, get_or, Float}
+use Rattle.std.specs.Prelude.{ℕ, ◌≡◌, List, [], ◌∷◌, eqb, ℤ, pos, neg_ℤ, get_or, Float, Option, Some, None}
 use Rattle.std.specs.Float.{nan}
 use Rattle.lists.specs.Pick.{pick}
 use Rattle.floats.specs.Exact.{Exactly}
 use Rattle.floats.specs.Constants.{one}
 use Rattle.util.specs.Fields.{minus}
-use Rattle.camera.specs.declared.Gradient.{Gradient}
-use Rattle.camera.specs.declared.Gradient.TheVariants.{Coefficient, Missing}
 use Rattle.record640.specs.declared.Calibration.{Calibration}
 use Rattle.sums640.specs.Sums.{offset_at, alpha_base_at, alpha_rest_at, k_ta_sum_at}
 use Rattle.record640.specs.Record.{calibration_of}
@@ -43,7 +41,7 @@ pub data Reading : Type 0 where
   offsetsCp : ℕ → ℤ → ℤ → Reading
   slopes : ℕ → ℕ → ℤ → ℤ → ℕ → Reading
   corners : ℕ → ℤ → ℤ → Reading
-  gradient : ℕ → Gradient → Reading
+  gradient : ℕ → Option Float → Reading
   rows : ℕ → ℤ → ℤ → ℤ → ℤ → Reading
   rests : ℕ → ℤ → ℤ → ℤ → Reading
 
@@ -83,8 +81,8 @@ readings =
     ∷ slopes 0x0201 0x2889 (pos 1) (pos 2) 17
     ∷ corners 0x2889 (pos 160) (pos 320)
     ∷ corners 0xF110 (pos 30) (pos 60)
-    ∷ gradient 0xF000 Missing
-    ∷ gradient 0xF020 (Coefficient one)
+    ∷ gradient 0xF000 None
+    ∷ gradient 0xF020 (Some one)
     ∷ rows 0x4321 (pos 1) (pos 2) (pos 3) (pos 4)
     ∷ rests 0xFFFE (minus 1) (minus 1) (minus 1)
     ∷ rests 0x0011 (pos 0) (pos 1) (pos 0)

@@ -1,8 +1,7 @@
 // Loads the MLX90640's card: from its image to a calibration record and three tables, or a refusal that changes nothing.
 #![tactic(auto)]
 
-ghost use Rattle.std.specs.Prelude.{◌≡◌, ◌≤◌, min, length};
-ghost use Rattle.refusal.specs.declared.Verdict.TheVariants.{Pass};
+ghost use Rattle.std.specs.Prelude.{◌≡◌, ◌≤◌, min, length, OnOk};
 ghost use Rattle.refusal.specs.Order.{first_of};
 ghost use Rattle.util.specs.Words.{word_at};
 ghost use Rattle.sums640.specs.Inner.{shared_count, Shared};
@@ -18,13 +17,6 @@ use sums640::{PIXELS, SHARED};
 // The basic range that the crate mlx9064x uses for this camera.
 pub const BASIC_RANGE: usize = 1;
 
-// The result of a load: the verdict and the record. After a refusal the record is all zero, without a gradient.
-#[derive(Clone, Copy)]
-pub struct Loaded {
-    pub verdict: Verdict,
-    pub calibration: Calibration,
-}
-
 // The length of the shortest of three tables.
 fn shortest_of(offsets: usize, alpha: usize, k_ta: usize) -> usize
     ensures { result ≡ min offsets (min alpha k_ta) }
@@ -37,32 +29,30 @@ fn data_gate(image: &[u8], basic_range: usize, shared: &[i32]) -> Verdict
     requires { (1664 ≤ length image.now) × (shared_count ≤ length shared.now) × Shared (word_at image.now) shared.now }
     ensures { result ≡ first_of (data_tests (word_at image.now) basic_range) }
 {
-    let pixel = sums640::first_outside(image, shared);
-    if pixel < PIXELS {
-        return Verdict::Refused(Refusal::LargePixel { pixel });
+    if let Some(pixel) = sums640::first_outside(image, shared) {
+        return Err(Refusal::LargePixel { pixel });
     }
     if RANGES <= basic_range {
-        return Verdict::Refused(Refusal::BasicRange { range: basic_range });
+        return Err(Refusal::BasicRange { range: basic_range });
     }
-    let range = record640::zero_factor(image, basic_range);
-    if range < RANGES {
-        return Verdict::Refused(Refusal::ZeroFactor { range });
+    if let Some(range) = record640::zero_factor(image, basic_range) {
+        return Err(Refusal::ZeroFactor { range });
     }
-    Verdict::Pass
+    Ok(())
 }
 
 // Runs all tests of a load, lowest refusal number first. If all pass, `shared` has the numbers that many pixels have in common.
 fn gate(image: &[u8], basic_range: usize, table: usize, shared: &mut [i32]) -> Verdict
     requires { shared_count ≤ length shared.old }
     ensures value { result ≡ first_of (load_tests image.now basic_range table) }
-    ensures shared { result ≡ Pass → Shared (word_at image.now) shared.new }
+    ensures shared { OnOk result (Shared (word_at image.now) shared.new) }
 {
     let length = image.len();
     if length < IMAGE_BYTES {
-        return Verdict::Refused(Refusal::ShortImage { length });
+        return Err(Refusal::ShortImage { length });
     }
     if table < PIXELS {
-        return Verdict::Refused(Refusal::ShortTable);
+        return Err(Refusal::ShortTable);
     }
     sums640::fill_shared(image, shared);
     data_gate(image, basic_range, shared)
@@ -97,23 +87,13 @@ pub fn load(
     offsets: &mut [i32],
     alpha: &mut [f32],
     k_ta: &mut [f32],
-) -> Loaded
+) -> Result<Calibration, Refusal>
     ensures { Loads image.now basic_range (tables offsets.old alpha.old k_ta.old)
         (tables offsets.new alpha.new k_ta.new) result }
 {
     let table = shortest_of(offsets.len(), alpha.len(), k_ta.len());
     let mut shared = [0i32; SHARED];
-    let verdict = gate(image, basic_range, table, &mut shared);
-    let Verdict::Pass = verdict else {
-        let calibration = record640::no_calibration();
-        return Loaded {
-            verdict,
-            calibration,
-        };
-    };
+    gate(image, basic_range, table, &mut shared)?;
     let calibration = fill_all(image, basic_range, &shared, offsets, alpha, k_ta);
-    Loaded {
-        verdict,
-        calibration,
-    }
+    Ok(calibration)
 }

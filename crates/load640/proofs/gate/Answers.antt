@@ -6,7 +6,7 @@ use Prim.Native.Nat.{ℕ, ◌<◌, ◌≤◌}
 use native.Mathlib.Omega.{arith}
 use lib.ListN.{length}
 use Rattle.refusal.specs.declared.Refusal.TheVariants.{ShortImage, ShortTable}
-use Rattle.refusal.specs.declared.Verdict.TheVariants.{Refused}
+use Rattle.std.specs.Prelude.{Err}
 use Rattle.refusal.specs.Order.{first_of}
 use Rattle.util.specs.Words.{word_at}
 use Rattle.sums640.specs.Sums.{pixel_count}
@@ -15,12 +15,12 @@ use Rattle.load640.proofs.gate.Goals as goal
 
 -- the tests, line by line
 module _ (image : List ℕ) (range table : ℕ) where
-  short-image : length image < image_bytes → Refused (ShortImage (length image)) ≡ first_of (load_tests image range table)
+  short-image : length image < image_bytes → Err (ShortImage (length image)) ≡ first_of (load_tests image range table)
   unfolding load_tests first_of
   short-image h = simp (lt-ltb _ _ h)
 
   module _ (l : image_bytes ≤ length image) where
-    short-table : table < pixel_count → Refused ShortTable ≡ first_of (load_tests image range table)
+    short-table : table < pixel_count → Err ShortTable ≡ first_of (load_tests image range table)
     unfolding load_tests first_of
     short-table h = simp (le-ltb _ _ l, lt-ltb _ _ h)
 

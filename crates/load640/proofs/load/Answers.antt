@@ -7,4 +7,4 @@ use Rattle.load640.proofs.load.Goals as goal
 pub fill_all-calibration-requires-clause-passed : goal.fill_all-calibration-requires-clause-passed
 fill_all-calibration-requires-clause-passed c =
     let a = c.args in
-    opened a.image.now a.basic_range (tables a.offsets.now a.alpha.now a.k_ta.now) (sym (rw c.shortest_of-table.ensures at c.in-Pass.ensures.value))
+    opened a.image.now a.basic_range (tables a.offsets.now a.alpha.now a.k_ta.now) (sym (rw c.shortest_of-table.ensures at c.in_ok-gate.ensures.value))
