@@ -2,10 +2,10 @@
 // docs/CASES.md describes the blocks.
 #![tactic(auto)]
 
-mod answer;
+mod expected;
 mod kinds;
 
-pub use answer::{Answer, Differs};
+pub use expected::{Differs, Expected};
 pub use kinds::{Call, CardCase, Case640, Kind, Pass, Shelved, UnknownKind};
 
 // ---- Numbers, upper byte first. Bytes past the end of a block are 0

@@ -8,14 +8,14 @@ pub struct Differs;
 
 // The bytes of the answer, and how many of them agree so far.
 #[derive(Clone, Copy)]
-pub struct Answer<'a> {
+pub struct Expected<'a> {
     bytes: &'a [u8],
     agreed: usize,
 }
 
-impl<'a> Answer<'a> {
-    pub fn new(bytes: &'a [u8]) -> Answer<'a> {
-        Answer { bytes, agreed: 0 }
+impl<'a> Expected<'a> {
+    pub fn new(bytes: &'a [u8]) -> Expected<'a> {
+        Expected { bytes, agreed: 0 }
     }
 
     // The number of bytes that agree: all that was compared, or what stands before the first number that differs.
@@ -49,8 +49,8 @@ impl<'a> Answer<'a> {
     // A size, which the answer has in four bytes.
     pub fn same_size(&mut self, size: usize) -> Result<(), Differs> {
         let bytes = self.bytes;
-        let expected = crate::word_at(bytes, self.agreed);
-        self.pass(4, expected as usize == size)
+        let word = crate::word_at(bytes, self.agreed);
+        self.pass(4, word as usize == size)
     }
 
     pub fn same_flag(&mut self, flag: bool) -> Result<(), Differs> {
