@@ -9,11 +9,17 @@ pub enum Pass {
     Second,
 }
 
-// A frame call: on raw pixels, with the frame's own compensation pixel or a filter's, or on infrared.
+// A call on raw pixels, with the frame's own compensation pixel or a filter's average.
 #[derive(Clone, Copy, Debug, PartialEq, Eq)]
-pub enum Call {
+pub enum RawCall {
     Plain(Pass),
     Filtered(Pass),
+}
+
+// A frame call: on raw pixels, or from infrared to temperatures.
+#[derive(Clone, Copy, Debug, PartialEq, Eq)]
+pub enum Call {
+    Raw(RawCall),
     Temperatures,
 }
 
@@ -83,12 +89,12 @@ impl TryFrom<u16> for Kind {
             11 => Ok(Kind::Card(CardCase::Filter)),
             12 => Ok(Kind::Shelved(Shelved::Camera)),
             13 => Ok(Kind::Shelved(Shelved::Frame)),
-            14 => Ok(Kind::Call(Call::Plain(Pass::Infrared))),
-            15 => Ok(Kind::Call(Call::Plain(Pass::One))),
-            16 => Ok(Kind::Call(Call::Plain(Pass::Second))),
-            17 => Ok(Kind::Call(Call::Filtered(Pass::Infrared))),
-            18 => Ok(Kind::Call(Call::Filtered(Pass::One))),
-            19 => Ok(Kind::Call(Call::Filtered(Pass::Second))),
+            14 => Ok(Kind::Call(Call::Raw(RawCall::Plain(Pass::Infrared)))),
+            15 => Ok(Kind::Call(Call::Raw(RawCall::Plain(Pass::One)))),
+            16 => Ok(Kind::Call(Call::Raw(RawCall::Plain(Pass::Second)))),
+            17 => Ok(Kind::Call(Call::Raw(RawCall::Filtered(Pass::Infrared)))),
+            18 => Ok(Kind::Call(Call::Raw(RawCall::Filtered(Pass::One)))),
+            19 => Ok(Kind::Call(Call::Raw(RawCall::Filtered(Pass::Second)))),
             20 => Ok(Kind::Call(Call::Temperatures)),
             21 => Ok(Kind::Card(CardCase::Word)),
             22 => Ok(Kind::Card(CardCase::Split)),
@@ -97,12 +103,12 @@ impl TryFrom<u16> for Kind {
             25 => Ok(Kind::Bigger(Case640::Mask)),
             26 => Ok(Kind::Shelved(Shelved::Camera640)),
             27 => Ok(Kind::Shelved(Shelved::Frame640)),
-            28 => Ok(Kind::Bigger(Case640::Call(Call::Plain(Pass::Infrared)))),
-            29 => Ok(Kind::Bigger(Case640::Call(Call::Plain(Pass::One)))),
-            30 => Ok(Kind::Bigger(Case640::Call(Call::Plain(Pass::Second)))),
-            31 => Ok(Kind::Bigger(Case640::Call(Call::Filtered(Pass::Infrared)))),
-            32 => Ok(Kind::Bigger(Case640::Call(Call::Filtered(Pass::One)))),
-            33 => Ok(Kind::Bigger(Case640::Call(Call::Filtered(Pass::Second)))),
+            28 => Ok(Kind::Bigger(Case640::Call(Call::Raw(RawCall::Plain(Pass::Infrared))))),
+            29 => Ok(Kind::Bigger(Case640::Call(Call::Raw(RawCall::Plain(Pass::One))))),
+            30 => Ok(Kind::Bigger(Case640::Call(Call::Raw(RawCall::Plain(Pass::Second))))),
+            31 => Ok(Kind::Bigger(Case640::Call(Call::Raw(RawCall::Filtered(Pass::Infrared))))),
+            32 => Ok(Kind::Bigger(Case640::Call(Call::Raw(RawCall::Filtered(Pass::One))))),
+            33 => Ok(Kind::Bigger(Case640::Call(Call::Raw(RawCall::Filtered(Pass::Second))))),
             34 => Ok(Kind::Bigger(Case640::Call(Call::Temperatures))),
             _ => Err(UnknownKind(number)),
         }
@@ -119,11 +125,19 @@ impl fmt::Display for Pass {
     }
 }
 
+impl fmt::Display for RawCall {
+    fn fmt<W: fmt::Write>(&self, f: &mut fmt::Formatter<W>) -> fmt::Result {
+        match self {
+            RawCall::Plain(pass) => write!(f, "{pass}"),
+            RawCall::Filtered(pass) => write!(f, "filtered {pass}"),
+        }
+    }
+}
+
 impl fmt::Display for Call {
     fn fmt<W: fmt::Write>(&self, f: &mut fmt::Formatter<W>) -> fmt::Result {
         match self {
-            Call::Plain(pass) => write!(f, "{pass}"),
-            Call::Filtered(pass) => write!(f, "filtered {pass}"),
+            Call::Raw(call) => write!(f, "{call}"),
             Call::Temperatures => f.write_str("temperatures"),
         }
     }

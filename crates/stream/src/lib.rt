@@ -6,7 +6,7 @@ mod expected;
 mod kinds;
 
 pub use expected::{Differs, Expected};
-pub use kinds::{Call, CardCase, Case640, Kind, Pass, Shelved, UnknownKind};
+pub use kinds::{Call, CardCase, Case640, Kind, Pass, RawCall, Shelved, UnknownKind};
 
 // ---- Numbers, upper byte first. Bytes past the end of a block are 0
 
