@@ -4,89 +4,45 @@
 // writing`.
 #![tactic(auto)]
 
-use console::{put, tab_number};
+use console::{Failure, Output};
 use listing::{CHECKED_WORDS, UNCHECKED_WORDS};
 use map::{IMAGE_BYTES, WORDS};
-use refusal::Verdict;
+use std::fmt;
+use std::fmt::Write;
+use std::io::Stdin;
 
-fn end_line(word: usize) -> bool {
-    tab_number(word as u64) && put(b"\n")
-}
-
-fn checked_line(word: usize, data: u16) -> bool {
-    io::print_decimal(console::STDOUT, data as u64) && end_line(word)
-}
-
-fn unchecked_line(word: usize, bits: u16) -> bool {
-    put(b"0x") && io::print_hex(console::STDOUT, bits as u64, 4) && end_line(word)
-}
-
-// The number of entries written of each list, and whether all writing succeeded.
-#[derive(Clone, Copy)]
-struct Written {
-    data: usize,
-    others: usize,
-    good: bool,
-}
-
-// Writes the line of a word, from the next entry of its list. Once writing has failed, nothing more is written.
-fn word_line(written: Written, word: usize, data: &[u16], others: &[u16]) -> Written {
-    let index = written.data;
-    let other = written.others;
-    if !written.good {
-        return written;
-    }
-    if map::is_checked(word) {
-        if index < data.len() {
-            return Written {
-                data: index + 1,
-                others: other,
-                good: checked_line(word, data[index]),
-            };
-        }
-    } else {
-        if other < others.len() {
-            return Written {
-                data: index,
-                others: other + 1,
-                good: unchecked_line(word, others[other]),
-            };
-        }
-    }
-    written
-}
-
-// Writes the lines of all words; returns false if writing failed.
-fn word_lines(data: &[u16], others: &[u16]) -> bool {
-    let mut written = Written {
-        data: 0,
-        others: 0,
-        good: true,
-    };
+// Writes the line of each word, from the next entry of its list.
+fn word_lines(data: &[u16], others: &[u16]) -> fmt::Result {
+    let mut data = data.iter();
+    let mut others = others.iter();
     for word in 0..WORDS {
-        written = word_line(written, word, data, others);
+        if map::is_checked(word) {
+            if let Some(data) = data.next() {
+                writeln!(Output, "{data}\t{word}")?;
+            }
+        } else if let Some(bits) = others.next() {
+            writeln!(Output, "0x{bits:04x}\t{word}")?;
+        }
     }
-    written.good
+    Ok(())
 }
 
-// Writes the words of an image, or its refusal.
-fn read_card(image: &[u8]) {
+// Writes the words of an image, if it is not refused.
+fn read_card(image: &[u8]) -> Result<(), Failure> {
     let mut data = [0u16; CHECKED_WORDS];
     let mut others = [0u16; UNCHECKED_WORDS];
-    let verdict = listing::read_words(image, &mut data, &mut others);
-    let Verdict::Pass = verdict else {
-        console::refused(verdict.told());
-        return;
-    };
-    console::went(word_lines(&data, &others), verdict);
+    listing::read_words(image, &mut data, &mut others)?;
+    word_lines(&data, &others)?;
+    Ok(())
+}
+
+fn run(input: Stdin) -> Result<(), Failure> {
+    let mut buffer = io::buffer();
+    let n = io::read_full(console::STDIN, &mut buffer);
+    console::whole(input, n, IMAGE_BYTES)?;
+    read_card(&buffer[..n])
 }
 
 fn main(rt: HostRuntime) {
-    let mut buffer = io::buffer();
-    let n = io::read_full(console::STDIN, &mut buffer);
-    if console::whole(rt.stdin(), n, IMAGE_BYTES) {
-        read_card(&buffer[..n]);
-    } else {
-        console::failed_reading();
-    }
+    console::end(run(rt.stdin()));
 }
