@@ -1,9 +1,8 @@
 -- The MLX90640's odd parts as C has them: nibbles in a struct, the corrections with their pattern, a refusal by its number, place and value.
 -- Assumes nothing.
-use Rattle.std.specs.Prelude.{ℕ, List, ℤ}
+use Rattle.std.specs.Prelude.{ℕ, List, ℤ, Result, Ok, Err}
+use Rattle.refusal.specs.declared.Refusal.{Refusal}
 use Rattle.refusal.specs.Refusal.{told_of}
-use Rattle.mlx90640.specs.declared.Entry.{Entry}
-use Rattle.mlx90640.specs.declared.Entry.TheVariants.{At, Refused}
 use Rattle.mlx90640.specs.Corrections.{corrections_of, pattern_of}
 use Rattle.capi_mlx90640.specs.declared.Unsigned.{Unsigned}
 use Rattle.capi_mlx90640.specs.declared.Signed.{Signed}
@@ -24,6 +23,6 @@ access_pattern word = record {
   pattern = pattern_of (corrections_of word);
 }
 
-abbrev pub entry_out : Entry → PixelEntry
-entry_out (At k) = record { number = 0; place = 0; value = 0; entry = k }
-entry_out (Refused r) = record { number = (told_of r).number; place = (told_of r).place; value = (told_of r).value; entry = 0 }
+abbrev pub entry_out : Result ℕ Refusal → PixelEntry
+entry_out (Ok k) = record { number = 0; place = 0; value = 0; entry = k }
+entry_out (Err r) = record { number = (told_of r).number; place = (told_of r).place; value = (told_of r).value; entry = 0 }

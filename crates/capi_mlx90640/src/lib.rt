@@ -6,7 +6,8 @@ ghost use Rattle.mlx90640.specs.Words.{six_ten, u4s, i4s};
 ghost use Rattle.mlx90640.specs.Pixels.{interleave_at, chessboard_at, entry_of};
 ghost use Rattle.capi_mlx90640.specs.Bigger.{unsigned_out, signed_out, access_pattern, entry_out};
 
-use mlx90640::{Entry, SixTen};
+use mlx90640::SixTen;
+use refusal::Refusal;
 
 // The four unsigned nibbles of a word.
 #[repr(C)]
@@ -84,17 +85,17 @@ pub extern "C" fn loamchalice_mlx90640_access_pattern(word: u16) -> AccessPatter
 }
 
 // Returns a pixel's entry as C has it.
-fn entry_out(entry: Entry) -> PixelEntry
+fn entry_out(entry: Result<usize, Refusal>) -> PixelEntry
     ensures { result ≡ entry_out entry }
 {
     match entry {
-        Entry::At(at) => PixelEntry {
+        Ok(at) => PixelEntry {
             number: 0,
             place: 0,
             value: 0,
             entry: at,
         },
-        Entry::Refused(refusal) => {
+        Err(refusal) => {
             let told = refusal.told();
             PixelEntry {
                 number: told.number,
