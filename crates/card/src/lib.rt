@@ -160,6 +160,13 @@ fn fill_clean(image: &[u8], first: usize, n: usize, words: &mut Words)
     }
 }
 
+// The place of a word, if there is such a word.
+fn found_at(place: usize) -> Option<usize>
+    ensures { result ≡ found_below card_words place }
+{
+    if place < WORDS { Some(place) } else { None }
+}
+
 // Decodes an image up to the first damaged word. Writes the data of all words before it into `words`.
 pub fn decode(image: &[u8], words: &mut Words) -> Decoded
     requires { image_bytes ≤ length image.now }
@@ -169,24 +176,25 @@ pub fn decode(image: &[u8], words: &mut Words) -> Decoded
 {
     let mut mending = no_mending();
     let mut word: usize = 0;
-    while word < WORDS {
+    // A required form (docs/DECISIONS.md): this loop yields the damaged word's place by break, or 832.
+    let place = loop {
+        if word == WORDS {
+            break WORDS;
+        }
         if let Some(clean) = clean_ahead(image, word) {
             fill_clean(image, word, clean, words);
             word += clean;
             continue;
         }
         let Some(read) = read_word(image, word) else {
-            return Decoded {
-                damaged: Some(word),
-                mending,
-            };
+            break word;
         };
         words[word] = read.value;
         mending = mending.with(word, read.stray);
         word += 1;
-    }
+    };
     Decoded {
-        damaged: None,
+        damaged: found_at(place),
         mending,
     }
 }
