@@ -6,10 +6,10 @@
 
 ghost use Rattle.std.specs.Prelude.{◌<◌, ◌≤◌};
 
+use console::Output;
 use roots::SIDE;
-
-// The file descriptor of standard output.
-const STDOUT: i32 = 1;
+use std::fmt;
+use std::fmt::Write;
 
 // The bits of 1.
 const ONE: u32 = 0x3F80_0000;
@@ -115,19 +115,17 @@ fn sweep_side_by_side() -> u64 {
     open
 }
 
-fn line(name: &[u8], number: u64) {
-    io::write_all(STDOUT, name);
-    io::write_all(STDOUT, b"\t");
-    io::print_decimal(STDOUT, number);
-    io::write_all(STDOUT, b"\n");
+fn write_lines() -> fmt::Result {
+    let tally = sweep();
+    writeln!(Output, "patterns\t{}", tally.patterns)?;
+    writeln!(Output, "first\t{}", tally.first)?;
+    writeln!(Output, "second\t{}", tally.second)?;
+    writeln!(Output, "most steps\t{}", tally.steps)?;
+    writeln!(Output, "side by side\t{TO_SIXTEEN}")?;
+    writeln!(Output, "left open\t{}", sweep_side_by_side())
 }
 
 fn main() {
-    let t = sweep();
-    line(b"patterns", t.patterns);
-    line(b"first", t.first);
-    line(b"second", t.second);
-    line(b"most steps", t.steps);
-    line(b"side by side", TO_SIXTEEN);
-    line(b"left open", sweep_side_by_side());
+    // Lines that cannot be written are missing in the output, which shows it.
+    let _ = write_lines();
 }
