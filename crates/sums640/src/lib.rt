@@ -1,7 +1,7 @@
 // The whole numbers of the MLX90640's pixels: sums of signed fields times powers of two, exactly, and the first pixel with one outside i16.
 #![tactic(auto)]
 
-ghost use Rattle.std.specs.Prelude.{◌≡◌, ◌+◌, ◌*◌, ◌/◌, ◌%◌, ◌^◌, ◌<◌, ◌≤◌, true, ◌+ℤ◌, pos, length, get_or};
+ghost use Rattle.std.specs.Prelude.{◌≡◌, ℕ, ◌+◌, ◌*◌, ◌/◌, ◌%◌, ◌^◌, ◌<◌, ◌≤◌, true, ◌+ℤ◌, pos, length, get_or};
 ghost use Rattle.std.specs.Int.Signed.{mag};
 ghost use Rattle.floats.specs.Floats.{real, over};
 ghost use Rattle.lists.specs.Written.{filled};
@@ -296,15 +296,25 @@ fn k_ta_at(image: &[u8], shared: &[i32], pixel: usize) -> f32
     k_ta_sum_at(image, shared, pixel) as f32 / floats::exp2(8 + scales / 16 % 16)
 }
 
+// Fills the first 768 entries of a table with what `at` answers for their pixels.
+fn fill<T: Copy, F: Fn(usize) -> T>(table: &mut [T], at: F)
+    requires callable { (pixel : ℕ) → pixel < pixel_count → F.pre at pixel }
+    requires in_bounds { pixel_count ≤ length table.old }
+    ensures { (value : ℕ → T) → ((pixel : ℕ) (r : T) → pixel < pixel_count → F.post at pixel r → r ≡ value pixel)
+        → table.new ≡ filled value pixel_count table.old }
+{
+    for pixel in 0..PIXELS {
+        table[pixel] = at(pixel);
+    }
+}
+
 // Offsets, alpha and K_Ta, each into the start of its table.
 pub fn fill_offsets(image: &[u8], shared: &[i32], table: &mut [i32])
     requires in_bounds { (1664 ≤ length image.now) × (shared_count ≤ length shared.now) × Shared (word_at image.now) shared.now }
     requires pixel_count_in_bounds { pixel_count ≤ length table.old }
     ensures { table.new ≡ filled (offset_at (word_at image.now)) pixel_count table.old }
 {
-    for pixel in 0..PIXELS {
-        table[pixel] = offset_at(image, shared, pixel);
-    }
+    fill(table, |pixel| offset_at(image, shared, pixel));
 }
 
 pub fn fill_alpha(image: &[u8], shared: &[i32], table: &mut [f32])
@@ -312,9 +322,7 @@ pub fn fill_alpha(image: &[u8], shared: &[i32], table: &mut [f32])
     requires pixel_count_in_bounds { pixel_count ≤ length table.old }
     ensures { table.new ≡ filled (alpha_at (word_at image.now)) pixel_count table.old }
 {
-    for pixel in 0..PIXELS {
-        table[pixel] = alpha_at(image, shared, pixel);
-    }
+    fill(table, |pixel| alpha_at(image, shared, pixel));
 }
 
 pub fn fill_k_ta(image: &[u8], shared: &[i32], table: &mut [f32])
@@ -322,7 +330,5 @@ pub fn fill_k_ta(image: &[u8], shared: &[i32], table: &mut [f32])
     requires pixel_count_in_bounds { pixel_count ≤ length table.old }
     ensures { table.new ≡ filled (k_ta_at (word_at image.now)) pixel_count table.old }
 {
-    for pixel in 0..PIXELS {
-        table[pixel] = k_ta_at(image, shared, pixel);
-    }
+    fill(table, |pixel| k_ta_at(image, shared, pixel));
 }
