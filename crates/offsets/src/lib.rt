@@ -42,9 +42,8 @@ fn read_basis(words: &Words) -> Basis
     .split(words, 5);
     let upper = scale.next.plain(words);
     let lower = upper.next.plain(words);
-    let pair = scale.value;
     Basis {
-        scale: pair.upper,
+        scale: scale.value.upper,
         average: offset_average(upper.value, lower.value),
     }
 }
@@ -53,8 +52,7 @@ fn read_basis(words: &Words) -> Basis
 pub fn offset_scale(words: &Words) -> u16
     ensures { result ≡ offset_scale (at words.now) }
 {
-    let basis = read_basis(words);
-    basis.scale
+    read_basis(words).scale
 }
 
 // A raw offset, a signed number of 11 bits, times 2^scale.
@@ -110,6 +108,7 @@ pub fn fill_offsets(words: &Words, first: usize, table: &mut [Offset])
     ensures { table.new ≡ filled (λ k. offset_at (at words.now) (first + k)) frame_pixels table.old }
 {
     let basis = read_basis(words);
+    // The index is also the number of the pixel whose offset is read.
     for i in 0..PIXELS {
         table[i] = offset_at(words, basis, first + i);
     }

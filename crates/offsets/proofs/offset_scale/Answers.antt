@@ -3,4 +3,4 @@ use Rattle.offsets.proofs.Range.{scale-is}
 use Rattle.offsets.proofs.offset_scale.Goals as goal
 
 pub returns : goal.returns
-returns c = scale-is _ _ c.read_basis-basis.ensures
+returns c = scale-is _ _ c.read_basis.ensures
