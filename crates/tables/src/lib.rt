@@ -41,11 +41,10 @@ fn row_reference(words: &Words, row: usize) -> f32
         word: map::ROW_SCALE + row / 2,
     }
     .split(words, 5);
-    let pair = scales.value;
     if row % 2 == 0 {
-        reference_of(maximum.value, pair.upper)
+        reference_of(maximum.value, scales.value.upper)
     } else {
-        reference_of(maximum.value, pair.lower)
+        reference_of(maximum.value, scales.value.lower)
     }
 }
 
@@ -55,6 +54,7 @@ fn row_references(words: &Words) -> [f32; ROWS]
     ensures { result ≡ filled (reference (at words.now)) 6 (replicate 6 plus_zero) }
 {
     let mut references = [0.0f32; ROWS];
+    // The index is also the number of the row that is read; so it is for the pixels below.
     for row in 0..ROWS {
         references[row] = row_reference(words, row);
     }
@@ -76,14 +76,12 @@ pub fn fill_alpha(words: &Words, table: &mut [f32])
 {
     let references = row_references(words);
     for i in 0..PIXELS {
-        let word = map::ALPHA + i;
-        let row = i / ROW_PIXELS;
-        table[i] = alpha_of(words[word], references[row]);
+        table[i] = alpha_of(words[map::ALPHA + i], references[i / ROW_PIXELS]);
     }
 }
 
 // Which of a pixel's two coefficients: K_Ta is the upper 6 bits of its word, K_V the lower 5.
-#[derive(Clone, Copy)]
+#[derive(Clone, Copy, Debug, PartialEq, Eq)]
 pub enum K {
     KTa,
     KV,
@@ -114,11 +112,10 @@ fn read_k_basis(words: &Words, which: K) -> KBasis
     let word = average_word(which);
     let average = Cursor { word }.signed(words);
     let scales = average.next.split(words, 5);
-    let pair = scales.value;
     KBasis {
         average: average.value as f32,
-        power1: floats::exp2(pair.upper),
-        power2: floats::exp2(pair.lower),
+        power1: floats::exp2(scales.value.upper),
+        power2: floats::exp2(scales.value.lower),
     }
 }
 
@@ -146,7 +143,6 @@ pub fn fill_k(words: &Words, which: K, table: &mut [f32])
 {
     let basis = read_k_basis(words, which);
     for i in 0..PIXELS {
-        let word = map::K_PIXEL + i;
-        table[i] = k_of(raw_of(words[word], which), basis);
+        table[i] = k_of(raw_of(words[map::K_PIXEL + i], which), basis);
     }
 }

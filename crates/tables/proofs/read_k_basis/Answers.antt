@@ -7,7 +7,8 @@ use Rattle.util.proofs.Width.{signed_back}
 use Rattle.map.specs.Map.{card_words, word_of}
 use Rattle.map.proofs.Words.{places}
 use Rattle.card.specs.Inner.{signed_at, split_at}
-use Rattle.card.specs.declared.Signed.{Signed}
+use Rattle.card.specs.declared.Field.{Field}
+use lib.IntN.{ℤ}
 use Rattle.tables.specs.declared.K.{K}
 use Rattle.tables.specs.declared.K.TheVariants.{KTa, KV}
 use Rattle.tables.specs.Tables.{average_field, scale_field}
@@ -29,7 +30,7 @@ returns c =
       c.exp2.ensures,
       c.exp2-2.ensures,
       (s.signed-average.ensures ∙ ap (signed_at s.args.words.now) s.average_word-word.ensures),
-      (s.split-scales.ensures ∙ ap (λ (r : Signed). split_at s.args.words.now 5 r.next.word) ((s.signed-average.ensures ∙ ap (signed_at s.args.words.now) s.average_word-word.ensures))
+      (s.split-scales.ensures ∙ ap (λ (r : Field ℤ). split_at s.args.words.now 5 r.next.word) ((s.signed-average.ensures ∙ ap (signed_at s.args.words.now) s.average_word-word.ensures))
           ∙ ap (split_at s.args.words.now 5) (next_word s.args.which)),
       signed_back 11 _ (lit≤ tt) (lit≤ tt),
     )
