@@ -1,7 +1,7 @@
 -- Proves specs/Numbers. A field divided by a power of two is finite; alpha and K are products, sums and quotients of finite numbers with divisors other
 -- than zero; the range coefficients follow from Growth. Assumes nothing.
 use Prim.Native.Nat.{ℕ, zero, suc, ◌-◌, ◌*◌, ◌/◌, ◌^◌, ◌<◌, ◌≤◌}
-use mathlib.Core.Path.{◌≡◌, refl, sym, ap, ◌∙◌, subst}
+use mathlib.Core.Path.{◌≡◌, refl, sym, subst}
 use mathlib.Core.Bool.{Bool, true, false}
 use mathlib.Core.List.{List, [], ◌∷◌}
 use native.Mathlib.Omega.{arith}
@@ -13,19 +13,19 @@ use lib.Pow.{pow_mono}
 use lib.Signed.{mag}
 use lib.Ieee.{Float, nan, is_nan, of_bits}
 use borrow.Author.Tests.{ltb-true, ltb-false}
+use Rattle.std.specs.Prelude.{⊤, Option, Some, None, Result, Ok, Err, IfOk, OnOk}
 use Rattle.lists.specs.Written.{filled}
 use Rattle.lists.proofs.Written.{written_at}
 use Rattle.refusal.specs.declared.Refusal.{Refusal}
 use Rattle.refusal.specs.declared.Refusal.TheVariants.{ShortImage, ShortTable, DamagedWord, LargeScale, BasicRange, ZeroFactor}
-use Rattle.refusal.specs.declared.Verdict.{Verdict}
-use Rattle.refusal.specs.declared.Verdict.TheVariants.{Pass, Refused}
 use Rattle.refusal.specs.Refusal.{unless}
 use Rattle.refusal.specs.Order.{Test, ◌refuses◌, first_of}
 use Rattle.refusal.proofs.Order.{passed}
 use Rattle.floats.specs.Floats.{◌⊕◌, ◌⊗◌, ◌⊘◌, real, power_of_two, over, is_zero}
 use Rattle.floats.specs.Constants.{plus_zero, alpha_full}
 use Rattle.floats.proofs.Power.{power_below, power-value}
-use Rattle.floats.proofs.Bound.{Within, within-number, within_of, Some, quotient-within, product-number, sum-is-number, quotient-number}
+use Rattle.floats.proofs.Bound as bound
+use Rattle.floats.proofs.Bound.{Within, within-number, within_of, quotient-within, product-number, sum-is-number, quotient-number}
 use Rattle.floats.proofs.Ratio.{large, ratio-within, real-within, over-ratio}
 use Rattle.util.specs.Words.{word_at}
 use Rattle.util.specs.Fields.{signed, combined}
@@ -37,7 +37,6 @@ use Rattle.map.specs.Map.{word_of, frame_pixels}
 use Rattle.card.specs.Card.{data_at, first_damaged}
 use Rattle.offsets.specs.Offsets.{offset_scale}
 use Rattle.card.proofs.Data.{data-lt}
-use Rattle.camera.specs.declared.Gradient.TheVariants.{Coefficient, Missing}
 use Rattle.ranges.specs.Coefficients as shared
 use Rattle.calibration.specs.Calibration.{single, double, k_s_to, ranges_of, calibration_of, no_calibration}
 use Rattle.calibration.specs.Coefficients.{range_count, growth, coefficient_at, zero_factor}
@@ -45,7 +44,7 @@ use Rattle.tables.specs.declared.K.{K}
 use Rattle.tables.specs.declared.K.TheVariants.{KTa, KV}
 use Rattle.tables.specs.Tables.{row_pixels, row_scale, reference, alpha_at, average_field, scale_field, average, scale1, scale2, raw_of, k_at}
 use Rattle.eeprom.specs.declared.Loaded.{Loaded}
-use Rattle.eeprom.specs.Load.{Tables, shortest, filled_tables, data_tests, load_tests, load_verdict, Loads}
+use Rattle.eeprom.specs.Load.{Tables, shortest, filled_tables, data_tests, load_tests, load_verdict, giving, loaded, Loads}
 use Rattle.eeprom.specs.Numbers.{Number, NumbersBelow, NumberRecord, NumberTables, AllNumbers, ZeroFactorFrom5}
 use Rattle.eeprom.proofs.Opened.{opened, each}
 use Rattle.eeprom.proofs.Growth.{coefficient-number, none_passes, no-zero-factor}
@@ -88,14 +87,14 @@ eight f h (suc (suc (suc (suc (suc (suc (suc (suc k)))))))) l = absurd (let q : 
 
 -- ---- the record
 
-inner : (x y : Float) → Coefficient x ≡ Coefficient y → x ≡ y
+inner : (x y : Float) → ◌≡◌ {A = Option Float} (Some x) (Some y) → x ≡ y
 inner x y e = cc
 
 zero_number : Number plus_zero
 unfolding of_bits is_nan
 zero_number = refl
 
-none-given : (x : Float) → Missing ≡ Coefficient x → ⊥
+none-given : (x : Float) → ◌≡◌ {A = Option Float} None (Some x) → ⊥
 none-given x e = let z : ◌≡◌ {A = ℕ} 0 1 = cc in omega arith
 
 refused-record : NumberRecord no_calibration
@@ -147,8 +146,8 @@ module _ (w : ℕ → ℕ) (small : (k : ℕ) → w k < data_values) where
   power-within : (e : ℕ) → e < 128 → Within (power_of_two e) (2 ^ e)
   power-within e h = within_of (power_of_two e) false (2 ^ e) 1 (2 ^ e) (omega arith) (power-value e h) (omega arith)
 
-  power-some : (e : ℕ) → e < 128 → Some (power_of_two e)
-  power-some e h = subst Some (sym (power_below e h)) (omega arith)
+  power-some : (e : ℕ) → e < 128 → bound.Some (power_of_two e)
+  power-some e h = subst bound.Some (sym (power_below e h)) (omega arith)
 
   alpha-number : (i : ℕ) → Number (alpha_at w i)
   unfolding alpha_at reference of_bits
@@ -192,7 +191,7 @@ module _ (w : ℕ → ℕ) (small : (k : ℕ) → w k < data_values) where
 -- ---- a load
 
 -- if a load passes, no divisor of a coefficient is zero
-no-zeros : (image : List ℕ) (range : ℕ) (t : Tables) → load_verdict image range t ≡ Pass → range_count ≤ zero_factor (ranges_of (data_at image)) range
+no-zeros : (image : List ℕ) (range : ℕ) (t : Tables) → load_verdict image range t ≡ Ok tt → range_count ≤ zero_factor (ranges_of (data_at image)) range
 unfolding load_tests data_tests
 no-zeros image range t e =
     let p = passed _ _ _ e in
@@ -203,41 +202,49 @@ no-zeros image range t e =
     ltb-false _ _ (passed _ _ _ b.1).0
 
 module _ (image : List ℕ) (range : ℕ) (before : Tables) where
-  by-verdict : (v : Verdict) → v ≡ load_verdict image range before → NumberRecord (unless v (calibration_of (data_at image) range) no_calibration)
+  passed-record : load_verdict image range before ≡ Ok tt → NumberRecord (calibration_of (data_at image) range)
   unfolding shared.zero_factor
-  by-verdict Pass e =
-      let o = opened image range before (sym e) in
+  passed-record e =
+      let o = opened image range before e in
       let i = o.inside in
       loaded-record (data_at image) (data-lt image) range (omega arith)
-      (none_passes (λ (r : ℕ). is_zero (growth (ranges_of (data_at image)) r)) range_count range (omega arith) (no-zeros image range before (sym e)))
-  by-verdict (Refused refusal) e = refused-record
+      (none_passes (λ (r : ℕ). is_zero (growth (ranges_of (data_at image)) r)) range_count range (omega arith) (no-zeros image range before e))
 
-  pub all-numbers : (after : Tables) (r : Loaded) → Loads image range before after r → AllNumbers after r
+  record-by : (v : Result ⊤ Refusal) → load_verdict image range before ≡ v → IfOk (giving v (loaded image range)) (λ (l : Loaded). NumberRecord l.calibration)
+  record-by (Ok _) e = passed-record e
+  record-by (Err refusal) e = tt
+
+  tables-by : (v : Result ⊤ Refusal) → load_verdict image range before ≡ v → (after : Tables) → after ≡ unless v (filled_tables (data_at image) before) before
+      → OnOk (giving v (loaded image range)) (NumberTables after)
+  tables-by (Ok _) e after f = subst NumberTables (sym f) (loaded-tables (data_at image) (data-lt image) before (opened image range before e).long)
+  tables-by (Err refusal) e after f = tt
+
+  pub all-numbers : (after : Tables) (r : Result Loaded Refusal) → Loads image range before after r → AllNumbers after r
   all-numbers after r l = record {
-    calibration = subst NumberRecord (sym l.calibration) (by-verdict r.verdict l.verdict);
-    lent = λ e. subst NumberTables (sym (l.lent ∙ ap (λ (v : Verdict). unless v (filled_tables (data_at image) before) before) e))
-        (loaded-tables (data_at image) (data-lt image) before (opened image range before (sym l.verdict ∙ e)).long);
+    calibration = subst (λ (q : Result Loaded Refusal). IfOk q (λ (l : Loaded). NumberRecord l.calibration)) (sym l.result) (record-by _ refl);
+    refused = refused-record;
+    lent = subst (λ (q : Result Loaded Refusal). OnOk q (NumberTables after)) (sym l.result) (tables-by _ refl after l.lent);
   }
 
 -- ---- refusal 13
 
-later : (holds : Bool) (x y : Refusal) (rest : List Test) → (x ≡ y → ⊥) → first_of (holds refuses x ∷ rest) ≡ Refused y → first_of rest ≡ Refused y
+later : (holds : Bool) (x y : Refusal) (rest : List Test) → (x ≡ y → ⊥) → first_of (holds refuses x ∷ rest) ≡ Err y → first_of rest ≡ Err y
 unfolding first_of
 later true x y rest ne e = absurd (ne (same x y e))
   where
-    same : (x y : Refusal) → Refused x ≡ Refused y → x ≡ y
+    same : (x y : Refusal) → ◌≡◌ {A = Result ⊤ Refusal} (Err x) (Err y) → x ≡ y
     same x y e = cc
 later false x y rest ne e = e
 
-last : (k : ℕ) (y : Refusal) → k ≡ range_count → first_of (ltb k range_count refuses ZeroFactor k ∷ []) ≡ Refused y → ⊥
+last : (k : ℕ) (y : Refusal) → k ≡ range_count → first_of (ltb k range_count refuses ZeroFactor k ∷ []) ≡ Err y → ⊥
 unfolding first_of
 last k y h e =
-    let g : Pass ≡ Refused y = rw h at e in
+    let g : ◌≡◌ {A = Result ⊤ Refusal} (Ok tt) (Err y) = rw h at e in
     let z : ◌≡◌ {A = ℕ} 0 1 = cc in
     omega arith
 
 -- refusal 13 does not occur with a basic range of 4 or less: the tests before it give other refusals
-never : (image : List ℕ) (range : ℕ) (t : Tables) (r : ℕ) → range ≤ 4 → load_verdict image range t ≡ Refused (ZeroFactor r) → ⊥
+never : (image : List ℕ) (range : ℕ) (t : Tables) (r : ℕ) → range ≤ 4 → load_verdict image range t ≡ Err (ZeroFactor r) → ⊥
 unfolding load_tests data_tests
 never image range t r h e =
     let y = ZeroFactor r in
@@ -250,7 +257,7 @@ never image range t r h e =
     let f = later _ (BasicRange range) y _ (λ q. let z : ◌≡◌ {A = ℕ} 0 1 = cc in omega arith) d in
     last (zero_factor (ranges_of w) range) y (no-zero-factor w range h) f
 
-from-5 : (image : List ℕ) (range : ℕ) (t : Tables) (r : ℕ) (b : Bool) → ltb range 5 ≡ b → load_verdict image range t ≡ Refused (ZeroFactor r) → 5 ≤ range
+from-5 : (image : List ℕ) (range : ℕ) (t : Tables) (r : ℕ) (b : Bool) → ltb range 5 ≡ b → load_verdict image range t ≡ Err (ZeroFactor r) → 5 ≤ range
 from-5 image range t r true k e = let l = ltb-true range 5 k in absurd (never image range t r (omega arith) e)
 from-5 image range t r false k e = ltb-false range 5 k
 

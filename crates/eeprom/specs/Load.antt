@@ -1,17 +1,17 @@
 -- Document 01, with refusals 6 and 13 of document 02: what stops a load, lowest number first, and what a load returns and writes. Assumes nothing.
-use Rattle.std.specs.Prelude.{ℕ, min, ◌+◌, ◌*◌, ◌≡◌, List, [], ◌∷◌, leb, ltb, ℤ, length, Float}
+use Rattle.std.specs.Prelude.{ℕ, min, ◌+◌, ◌*◌, ◌≡◌, List, [], ◌∷◌, leb, ltb, ℤ, length, Float, ⊤, Result, Ok, Err}
 use Rattle.lists.specs.Written.{filled}
+use Rattle.refusal.specs.declared.Refusal.{Refusal}
 use Rattle.refusal.specs.declared.Refusal.TheVariants.{ShortImage, ShortTable, DamagedWord, LargeScale, BasicRange, ZeroFactor}
-use Rattle.refusal.specs.declared.Verdict.{Verdict}
 use Rattle.refusal.specs.Refusal.{unless}
 use Rattle.refusal.specs.Order.{Test, ◌refuses◌, first_of}
 use Rattle.util.specs.Words.{word_at}
 use Rattle.map.specs.Map.{card_words, image_bytes, frame_pixels}
-use Rattle.card.specs.Card.{data_at, first_damaged, mending_of, no_mending}
+use Rattle.card.specs.Card.{data_at, first_damaged, mending_of}
 use Rattle.offsets.specs.Offsets.{scales, offset_scale, offset_at}
 use Rattle.tables.specs.declared.K.TheVariants.{KTa, KV}
 use Rattle.tables.specs.Tables.{alpha_at, k_at}
-use Rattle.calibration.specs.Calibration.{ranges_of, calibration_of, no_calibration}
+use Rattle.calibration.specs.Calibration.{ranges_of, calibration_of}
 use Rattle.calibration.specs.Coefficients.{range_count, zero_factor}
 use Rattle.eeprom.specs.declared.Loaded.{Loaded}
 
@@ -62,14 +62,21 @@ load_tests image range table =
     ∷ data_tests (data_at image) range
 
 -- the verdict of a load
-abbrev pub load_verdict : List ℕ → ℕ → Tables → Verdict
+abbrev pub load_verdict : List ℕ → ℕ → Tables → Result ⊤ Refusal
 load_verdict image range t = first_of (load_tests image range (shortest t))
 
 -- ---- the contract
 
+-- the value if nothing is refused, or the refusal
+abbrev pub giving : {A : Type 0} → Result ⊤ Refusal → A → Result A Refusal
+giving (Ok _) value = Ok value
+giving (Err refusal) value = Err refusal
+
+-- what a load of this image with this basic range returns if it is not refused
+abbrev pub loaded : List ℕ → ℕ → Loaded
+loaded image range = record { calibration = calibration_of (data_at image) range; mending = mending_of image }
+
 -- the contract of a load: its image, the basic range, the tables before and after, and its result r
-pub record Loads (image : List ℕ) (range : ℕ) (before after : Tables) (r : Loaded) : Type 0 where
-  pub verdict : r.verdict ≡ load_verdict image range before
-  pub calibration : r.calibration ≡ unless r.verdict (calibration_of (data_at image) range) no_calibration
-  pub mending : r.mending ≡ unless r.verdict (mending_of image) no_mending
-  pub lent : after ≡ unless r.verdict (filled_tables (data_at image) before) before
+pub record Loads (image : List ℕ) (range : ℕ) (before after : Tables) (r : Result Loaded Refusal) : Type 0 where
+  pub result : r ≡ giving (load_verdict image range before) (loaded image range)
+  pub lent : after ≡ unless (load_verdict image range before) (filled_tables (data_at image) before) before

@@ -1,12 +1,12 @@
 -- What a load never produces: NaN in its record or its tables, and refusal 13 with a basic range of 4 or less. Assumes nothing.
-use Rattle.std.specs.Prelude.{ℕ, ◌<◌, ◌≤◌, ◌≡◌, false, List, get_or, Float}
+use Rattle.std.specs.Prelude.{ℕ, ◌<◌, ◌≤◌, ◌≡◌, false, List, get_or, Float, Some, Result, Err, IfOk, OnOk}
 use Rattle.std.specs.Float.{nan}
 use Rattle.std.specs.Float.Ieee.{is_nan}
+use Rattle.refusal.specs.declared.Refusal.{Refusal}
 use Rattle.refusal.specs.declared.Refusal.TheVariants.{ZeroFactor}
-use Rattle.refusal.specs.declared.Verdict.TheVariants.{Pass, Refused}
 use Rattle.map.specs.Map.{frame_pixels}
 use Rattle.calibration.specs.declared.Calibration.{Calibration}
-use Rattle.camera.specs.declared.Gradient.TheVariants.{Coefficient}
+use Rattle.calibration.specs.Calibration.{no_calibration}
 use Rattle.calibration.specs.Coefficients.{range_count}
 use Rattle.eeprom.specs.declared.Loaded.{Loaded}
 use Rattle.eeprom.specs.Load.{Tables, load_verdict}
@@ -31,7 +31,7 @@ pub record NumberRecord (c : Calibration) : Type 0 where
   pub alpha_cp : Number c.alpha_cp
   pub k_ta_cp : Number c.k_ta_cp
   pub k_v_cp : Number c.k_v_cp
-  pub gradient : (x : Float) → c.temperature_gradient_coefficient ≡ Coefficient x → Number x
+  pub gradient : (x : Float) → c.temperature_gradient_coefficient ≡ Some x → Number x
   pub k_s_to : NumbersBelow range_count c.k_s_to
   pub range_coefficients : NumbersBelow range_count c.range_coefficients
 
@@ -41,11 +41,12 @@ pub record NumberTables (t : Tables) : Type 0 where
   pub k_v : NumbersBelow frame_pixels t.k_v
   pub k_ta : NumbersBelow frame_pixels t.k_ta
 
--- the record of a load has no NaN, after a refusal too; nor have the tables if the load passes
-pub record AllNumbers (after : Tables) (r : Loaded) : Type 0 where
-  pub calibration : NumberRecord r.calibration
-  pub lent : r.verdict ≡ Pass → NumberTables after
+-- the record and the tables of a load that passes have no NaN; nor has the record of zeros, which stands for that of a refused load
+pub record AllNumbers (after : Tables) (r : Result Loaded Refusal) : Type 0 where
+  pub calibration : IfOk r (λ l. NumberRecord l.calibration)
+  pub refused : NumberRecord no_calibration
+  pub lent : OnOk r (NumberTables after)
 
 -- refusal 13 only occurs with a basic range of 5 or more
 abbrev pub ZeroFactorFrom5 : Type 0
-ZeroFactorFrom5 = (image : List ℕ) (range : ℕ) (t : Tables) (r : ℕ) → load_verdict image range t ≡ Refused (ZeroFactor r) → 5 ≤ range
+ZeroFactorFrom5 = (image : List ℕ) (range : ℕ) (t : Tables) (r : ℕ) → load_verdict image range t ≡ Err (ZeroFactor r) → 5 ≤ range

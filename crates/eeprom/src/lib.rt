@@ -2,16 +2,15 @@
 // image and of a table.
 #![tactic(auto)]
 
-ghost use Rattle.std.specs.Prelude.{◌≡◌, ℕ, min, ◌<◌, length};
+ghost use Rattle.std.specs.Prelude.{◌≡◌, ℕ, min, ◌<◌, length, OnOk};
 ghost use Rattle.lists.specs.Written.{filled};
-ghost use Rattle.refusal.specs.declared.Verdict.TheVariants.{Pass, Refused};
 ghost use Rattle.refusal.specs.Order.{first_of};
 ghost use Rattle.hamming.specs.Word.{data_values};
 ghost use Rattle.map.specs.Map.{card_words};
 ghost use Rattle.card.specs.Card.{data_at, mending_of};
 ghost use Rattle.card.specs.Inner.{at};
 ghost use Rattle.calibration.specs.Calibration.{calibration_of};
-ghost use Rattle.eeprom.specs.Load.{tables, filled_tables, data_tests, load_tests, Loads};
+ghost use Rattle.eeprom.specs.Load.{giving, tables, filled_tables, data_tests, load_tests, Loads};
 ghost use Rattle.eeprom.specs.Inner.{Passed};
 ghost use Rattle.eeprom.specs.Parts.{row_of, first192, offsets_of};
 
@@ -23,19 +22,10 @@ use offsets::{Offset, SCALES};
 use refusal::{Refusal, Verdict};
 use tables::K;
 
-// The result of a load: the verdict; the record, which is all zero after a refusal; and the number of checked words that are not codewords with the
-// last of them, which are 0 and 832 after a refusal.
+// What a load returns if it is not refused: the record; and the number of checked words that are not codewords with the last of them, or 832 if there is none.
 #[derive(Clone, Copy)]
 pub struct Loaded {
-    pub verdict: Verdict,
     pub calibration: Calibration,
-    pub mending: Mending,
-}
-
-// The result of the gate: the verdict, and the mended words.
-#[derive(Clone, Copy)]
-pub struct Gated {
-    pub verdict: Verdict,
     pub mending: Mending,
 }
 
@@ -56,52 +46,42 @@ fn data_gate(words: &Words, basic_range: usize) -> Verdict
 {
     let scale = offsets::offset_scale(words);
     if SCALES <= scale {
-        return Verdict::Refused(Refusal::LargeScale { scale });
+        return Err(Refusal::LargeScale { scale });
     }
     if RANGES <= basic_range {
-        return Verdict::Refused(Refusal::BasicRange { range: basic_range });
+        return Err(Refusal::BasicRange { range: basic_range });
     }
-    let range = calibration::zero_factor(words, basic_range);
-    if range < RANGES {
-        return Verdict::Refused(Refusal::ZeroFactor { range });
+    if let Some(range) = calibration::zero_factor(words, basic_range) {
+        return Err(Refusal::ZeroFactor { range });
     }
-    Verdict::Pass
-}
-
-// The result of a gate that refuses.
-fn stopped(refusal: Refusal) -> Gated
-    ensures { result.verdict ≡ Refused refusal }
-{
-    Gated {
-        verdict: Verdict::Refused(refusal),
-        mending: card::no_mending(),
-    }
+    Ok(())
 }
 
 // Runs all tests of a load, lowest refusal number first. If all pass, `words` has the data of the card's words, and the mended words are counted.
-fn gate(image: &[u8], basic_range: usize, table: usize, words: &mut Words) -> Gated
+fn gate(
+    image: &[u8],
+    basic_range: usize,
+    table: usize,
+    words: &mut Words,
+) -> Result<Mending, Refusal>
     requires { length words.old ≡ card_words }
-    ensures verdict_value { result.verdict ≡ first_of (load_tests image.now basic_range table) }
-    ensures mending_value { result.verdict ≡ Pass → (result.mending ≡ mending_of image.now) × (words.new ≡ filled (data_at image.now) card_words words.old) }
+    ensures value { result ≡ giving (first_of (load_tests image.now basic_range table)) (mending_of image.now) }
+    ensures words_after { OnOk result (words.new ≡ filled (data_at image.now) card_words words.old) }
 {
     let length = image.len();
     if length < IMAGE_BYTES {
-        return stopped(Refusal::ShortImage { length });
+        return Err(Refusal::ShortImage { length });
     }
     if table < PIXELS {
-        return stopped(Refusal::ShortTable);
+        return Err(Refusal::ShortTable);
     }
     let decoded = card::decode(image, words);
-    let mending = decoded.mending;
-    let word = decoded.damaged;
-    if word < WORDS {
+    if let Some(word) = decoded.damaged {
         let bits = util::word_at(image, word);
-        return stopped(Refusal::DamagedWord { word, bits });
+        return Err(Refusal::DamagedWord { word, bits });
     }
-    Gated {
-        verdict: data_gate(words, basic_range),
-        mending,
-    }
+    data_gate(words, basic_range)?;
+    Ok(decoded.mending)
 }
 
 // Fills the five tables and returns the record, from the data of words that passed the gate.
@@ -137,7 +117,7 @@ pub fn load(
     alpha: &mut [f32],
     k_v: &mut [f32],
     k_ta: &mut [f32],
-) -> Loaded
+) -> Result<Loaded, Refusal>
     ensures { Loads image.now basic_range (tables offsets0.old offsets1.old alpha.old k_v.old k_ta.old)
         (tables offsets0.new offsets1.new alpha.new k_v.new k_ta.new) result }
 {
@@ -149,23 +129,12 @@ pub fn load(
         k_ta.len(),
     );
     let mut words = [0u16; WORDS];
-    let gated = gate(image, basic_range, table, &mut words);
-    let verdict = gated.verdict;
-    let mending = gated.mending;
-    let Verdict::Pass = verdict else {
-        let calibration = calibration::no_calibration();
-        return Loaded {
-            verdict,
-            calibration,
-            mending: card::no_mending(),
-        };
-    };
+    let mending = gate(image, basic_range, table, &mut words)?;
     let calibration = fill_all(&words, basic_range, offsets0, offsets1, alpha, k_v, k_ta);
-    Loaded {
-        verdict,
+    Ok(Loaded {
         calibration,
         mending,
-    }
+    })
 }
 
 // Returns the 64 bytes of a row of alpha as a part of the image; an empty part if the row is above 5 or the image is too short.

@@ -1,11 +1,14 @@
 -- `eeprom::data_gate` meets its contract: each return is one line of the list of tests. Assumes nothing.
 use borrow.Author.Tests.{le-leb, lt-leb, lt-ltb, le-ltb}
 use Prim.Native.Nat.{ℕ, ◌<◌, ◌≤◌}
-use mathlib.Core.Path.{◌≡◌}
+use mathlib.Core.Path.{◌≡◌, sym, ◌∙◌}
 use native.Mathlib.Omega.{arith}
+use Rattle.std.specs.Prelude.{⊤, Result, Ok, Err, Some, None}
+use Rattle.refusal.specs.declared.Refusal.{Refusal}
 use Rattle.refusal.specs.declared.Refusal.TheVariants.{LargeScale, BasicRange, ZeroFactor}
-use Rattle.refusal.specs.declared.Verdict.TheVariants.{Pass, Refused}
 use Rattle.refusal.specs.Order.{first_of}
+use Rattle.util.specs.Found.{found_below}
+use Rattle.util.proofs.Found.{some-below, none-below}
 use Rattle.card.specs.Inner.{at}
 use Rattle.offsets.specs.Offsets.{scales, offset_scale}
 use Rattle.calibration.specs.Calibration.{ranges_of}
@@ -15,23 +18,23 @@ use Rattle.eeprom.proofs.data_gate.Goals as goal
 
 -- the tests, line by line
 module _ (w : ℕ → ℕ) (range : ℕ) where
-  large-scale : (scale : ℕ) → scale ≡ offset_scale w → scales ≤ scale → Refused (LargeScale scale) ≡ first_of (data_tests w range)
+  large-scale : (scale : ℕ) → scale ≡ offset_scale w → scales ≤ scale → ◌≡◌ {A = Result ⊤ Refusal} (Err (LargeScale scale)) (first_of (data_tests w range))
   unfolding data_tests first_of
   large-scale scale e h = simp (e, le-leb _ _ (rw e at h))
 
   module _ (s : offset_scale w < scales) where
-    no-range : range_count ≤ range → Refused (BasicRange range) ≡ first_of (data_tests w range)
+    no-range : range_count ≤ range → ◌≡◌ {A = Result ⊤ Refusal} (Err (BasicRange range)) (first_of (data_tests w range))
     unfolding data_tests first_of
     no-range h = simp (lt-leb _ _ s, le-leb _ _ h)
 
     module _ (i : range < range_count) where
-      zero : (place : ℕ) → place ≡ zero_factor (ranges_of w) range → place < range_count → Refused (ZeroFactor place) ≡ first_of (data_tests w range)
+      zero : (place : ℕ) → Some place ≡ found_below range_count (zero_factor (ranges_of w) range) → ◌≡◌ {A = Result ⊤ Refusal} (Err (ZeroFactor place)) (first_of (data_tests w range))
       unfolding data_tests first_of
-      zero place e h = simp (e, lt-leb _ _ s, lt-leb _ _ i, lt-ltb _ _ (rw e at h))
+      zero place e = let p = some-below _ _ (sym e) in simp (sym p.0, lt-leb _ _ s, lt-leb _ _ i, lt-ltb _ _ p.1)
 
-      none : range_count ≤ zero_factor (ranges_of w) range → Pass ≡ first_of (data_tests w range)
+      none : found_below range_count (zero_factor (ranges_of w) range) ≡ None → ◌≡◌ {A = Result ⊤ Refusal} (Ok tt) (first_of (data_tests w range))
       unfolding data_tests first_of
-      none h = simp (lt-leb _ _ s, lt-leb _ _ i, le-ltb _ _ h)
+      none h = simp (lt-leb _ _ s, lt-leb _ _ i, le-ltb _ _ (none-below _ _ h))
 
 pub returns-then-scale-ge-SCALES : goal.returns-then-scale-ge-SCALES
 returns-then-scale-ge-SCALES c = let a = c.args in large-scale (at a.words.now) a.basic_range _ c.offset_scale-scale.ensures (omega arith)
@@ -39,15 +42,9 @@ returns-then-scale-ge-SCALES c = let a = c.args in large-scale (at a.words.now) 
 pub returns-then-basic_range-ge-RANGES : goal.returns-then-basic_range-ge-RANGES
 returns-then-basic_range-ge-RANGES c = let a = c.args in no-range (at a.words.now) a.basic_range (let e = c.offset_scale-scale.ensures in omega arith) (omega arith)
 
-pub returns-then-range-lt-RANGES : goal.returns-then-range-lt-RANGES
-returns-then-range-lt-RANGES c =
-    let i = c in
-    let a = i.args in
-    zero (at a.words.now) a.basic_range (let e = i.offset_scale-scale.ensures in omega arith) (omega arith) _ c.zero_factor-range.ensures (omega arith)
+pub returns-in-Some : goal.returns-in-Some
+returns-in-Some c = zero (at c.args.words.now) c.args.basic_range (let e = c.offset_scale-scale.ensures in omega arith) (omega arith) _ c.in-Some.ensures
 
 pub returns : goal.returns
 returns c =
-    let i = c in
-    let a = i.args in
-    let e = c.zero_factor-range.ensures in
-    none (at a.words.now) a.basic_range (let e = i.offset_scale-scale.ensures in omega arith) (omega arith) (omega arith)
+    none (at c.args.words.now) c.args.basic_range (let e = c.offset_scale-scale.ensures in omega arith) (omega arith) (sym c.zero_factor.ensures ∙ c.in_default.is)
