@@ -90,21 +90,13 @@ pub struct Ranges {
     pub k_s_to: [f32; 8],
 }
 
-// The low `width` bits of a word, signed, divided by 2^power.
-fn signed_over(word: u16, width: u32, power: u16) -> f32
-    requires { (1 ≤ width) × (width ≤ 16) }
-    ensures { result ≡ over (signed width word) power }
-{
-    util::i16_from_bits(util::wide(word), width) as f32 / floats::exp2(power)
-}
-
 // The low `width` bits of a word, signed, divided by 2 to the power given by the bits above them.
 fn low_over(word: u16, width: u32) -> f32
     requires { (1 ≤ width) × (width < 16) }
     ensures { result ≡ low_over width word }
 {
     let parts = util::split(word, width);
-    signed_over(word, width, parts.upper)
+    camera::signed_over(word, width, parts.upper)
 }
 
 // The resolution: bits 9 and 10 of word 51.
@@ -181,7 +173,7 @@ fn read_compensation(words: &Words) -> Compensation
     let k_ta = offset.next.plain(words);
     let k_v = k_ta.next.plain(words);
     let last = k_v.next.plain(words);
-    let gradient = signed_over(last.value, 9, 6);
+    let gradient = camera::signed_over(last.value, 9, 6);
     Compensation {
         offset_reference_cp: util::i16_from_bits(offset.value, 16),
         k_ta_cp: low_over(k_ta.value, 6),

@@ -9,6 +9,8 @@ ghost use Rattle.util.specs.Found.{found_below};
 ghost use Rattle.record640.specs.Record.{k_v_dd_of, v_dd25_of, k_v_ptat, k_t_ptat, alpha_ptat_of, whole_of, resolution_of, k_vs, k_v_cp, k_ta_cp, alpha_cp0, alpha_cps, offset_cps_of, k_s_ta, gradient_of, k_s_tos, corners_of, corners_at, coefficients_of, calibration_of, no_calibration};
 ghost use Rattle.ranges.specs.Coefficients.{zero_factor};
 
+use camera::signed_over;
+
 // The number of temperature ranges.
 pub const RANGES: usize = 4;
 
@@ -38,14 +40,6 @@ pub struct Calibration {
     pub access_pattern: [f32; 6],
     // the correction of the compensation pixel, in interleave mode and subpage 1
     pub access_cp: f32,
-}
-
-// The low `width` bits of a word, signed, divided by 2^power.
-fn over(word: u16, width: u32, power: u16) -> f32
-    requires { (1 ≤ width) × (width ≤ 16) }
-    ensures { result ≡ over (signed width word) power }
-{
-    util::i16_from_bits(util::wide(word), width) as f32 / floats::exp2(power)
 }
 
 // ---- Supply and ambient temperature
@@ -83,7 +77,7 @@ pub fn k_v_ptat(image: &[u8]) -> f32
     requires { 1664 ≤ length image.now }
     ensures { result ≡ k_v_ptat (word_at image.now) }
 {
-    over(util::word_at(image, map640::PTAT) / 1024, 6, 12)
+    signed_over(util::word_at(image, map640::PTAT) / 1024, 6, 12)
 }
 
 // K_TPTAT: the lower 10 bits of word 50, signed, divided by 2^3.
@@ -91,7 +85,7 @@ pub fn k_t_ptat(image: &[u8]) -> f32
     requires { 1664 ≤ length image.now }
     ensures { result ≡ k_t_ptat (word_at image.now) }
 {
-    over(util::word_at(image, map640::PTAT), 10, 3)
+    signed_over(util::word_at(image, map640::PTAT), 10, 3)
 }
 
 // ---- Scales
@@ -113,10 +107,10 @@ pub fn k_v(image: &[u8]) -> [f32; 4]
     let scale = util::word_at(image, map640::SCALES) / 256 % 16;
     let word = util::word_at(image, map640::K_V);
     [
-        over(word / 4096, 4, scale),
-        over(word / 256, 4, scale),
-        over(word / 16, 4, scale),
-        over(word, 4, scale),
+        signed_over(word / 4096, 4, scale),
+        signed_over(word / 256, 4, scale),
+        signed_over(word / 16, 4, scale),
+        signed_over(word, 4, scale),
     ]
 }
 
@@ -126,7 +120,7 @@ pub fn k_v_cp(image: &[u8]) -> f32
     ensures { result ≡ k_v_cp (word_at image.now) }
 {
     let scale = util::word_at(image, map640::SCALES) / 256 % 16;
-    over(util::word_at(image, map640::K_CP) / 256, 8, scale)
+    signed_over(util::word_at(image, map640::K_CP) / 256, 8, scale)
 }
 
 // K_Ta of the compensation pixel: the lower byte of word 59, signed, divided by 2 to the scale 1 of K_Ta plus 8.
@@ -135,7 +129,7 @@ pub fn k_ta_cp(image: &[u8]) -> f32
     ensures { result ≡ k_ta_cp (word_at image.now) }
 {
     let scale = util::word_at(image, map640::SCALES) / 16 % 16;
-    over(util::word_at(image, map640::K_CP), 8, 8 + scale)
+    signed_over(util::word_at(image, map640::K_CP), 8, 8 + scale)
 }
 
 // alpha_CP of both subpages: that of subpage 1 is that of subpage 0 times (1 + ratio).
@@ -146,7 +140,7 @@ pub fn alpha_cp(image: &[u8]) -> [f32; 2]
     let scale = 27 + util::word_at(image, map640::ALPHA_SCALES) / 4096;
     let word = util::word_at(image, map640::ALPHA_CP);
     let first = (word % 1024) as f32 / floats::exp2(scale);
-    [first, first * (1.0 + over(word / 1024, 6, 7))]
+    [first, first * (1.0 + signed_over(word / 1024, 6, 7))]
 }
 
 // Offset CP of both subpages, from word 58: that of subpage 1 is that of subpage 0 plus delta.
@@ -165,7 +159,7 @@ pub fn k_s_ta(image: &[u8]) -> f32
     requires { 1664 ≤ length image.now }
     ensures { result ≡ k_s_ta (word_at image.now) }
 {
-    over(util::word_at(image, map640::K_S_TA) / 256, 8, 13)
+    signed_over(util::word_at(image, map640::K_S_TA) / 256, 8, 13)
 }
 
 // The gradient: the lower byte of word 60, signed, divided by 2^5; none if the byte is 0.
@@ -175,7 +169,7 @@ pub fn gradient(word: u16) -> Option<f32>
     if word % 256 == 0 {
         return None;
     }
-    Some(over(word, 8, 5))
+    Some(signed_over(word, 8, 5))
 }
 
 // ---- Ranges
@@ -189,10 +183,10 @@ pub fn k_s_to(image: &[u8]) -> [f32; 4]
     let first = util::word_at(image, map640::K_S_TO);
     let second = util::word_at(image, map640::K_S_TO + 1);
     [
-        over(first, 8, scale),
-        over(first / 256, 8, scale),
-        over(second, 8, scale),
-        over(second / 256, 8, scale),
+        signed_over(first, 8, scale),
+        signed_over(first / 256, 8, scale),
+        signed_over(second, 8, scale),
+        signed_over(second / 256, 8, scale),
     ]
 }
 

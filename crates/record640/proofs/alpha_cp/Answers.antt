@@ -19,4 +19,4 @@ first-is w n m p d e f = ap₂ (λ (n : ℕ) (p : Float). real (pos (n % 1024)) 
 
 pub returns : goal.returns
 unfolding alpha_cps
-returns c = two (first-is _ _ _ _ c.word_at-word.ensures c.word_at.ensures c.exp2.ensures) (ap₂ (λ (x y : Float). x ⊗ y) (first-is _ _ _ _ c.word_at-word.ensures c.word_at.ensures c.exp2.ensures) (ap (λ (x : Float). one ⊕ x) (c.over.ensures ∙ ap (λ (n : ℕ). over (signed 6 (n / 1024)) 7) c.word_at-word.ensures)))
+returns c = two (first-is _ _ _ _ c.word_at-word.ensures c.word_at.ensures c.exp2.ensures) (ap₂ (λ (x y : Float). x ⊗ y) (first-is _ _ _ _ c.word_at-word.ensures c.word_at.ensures c.exp2.ensures) (ap (λ (x : Float). one ⊕ x) (c.signed_over.ensures ∙ ap (λ (n : ℕ). over (signed 6 (n / 1024)) 7) c.word_at-word.ensures)))

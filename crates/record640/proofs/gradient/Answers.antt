@@ -11,4 +11,4 @@ returns-then-word-eq0 c = rw (eq-eqb _ 0 c.if-word-eq0.true)
 
 pub returns : goal.returns
 unfolding gradient_of
-returns c = rw (ne_eqb _ 0 c.if-word-eq0.false) (ap Some c.over.ensures)
+returns c = rw (ne_eqb _ 0 c.if-word-eq0.false) (ap Some c.signed_over.ensures)

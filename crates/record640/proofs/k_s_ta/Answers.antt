@@ -8,4 +8,4 @@ use Rattle.record640.proofs.k_s_ta.Goals as goal
 
 pub returns : goal.returns
 unfolding k_s_ta
-returns c = c.over.ensures ∙ ap (λ (n : ℕ). over (signed 8 (n / 256)) 13) c.word_at.ensures
+returns c = c.signed_over.ensures ∙ ap (λ (n : ℕ). over (signed 8 (n / 256)) 13) c.word_at.ensures

@@ -13,4 +13,4 @@ four p q r s = rw (p, q, r, s)
 
 pub returns : goal.returns
 unfolding k_s_tos
-returns c = let b = c.word_at-second.ensures in let a = c.word_at-first.ensures in let s = c.word_at.ensures in four (c.over.ensures ∙ ap₂ (λ (n t : ℕ). over (signed 8 n) (8 + t % 16)) a s) (c.over-2.ensures ∙ ap₂ (λ (n t : ℕ). over (signed 8 (n / 256)) (8 + t % 16)) a s) (c.over-3.ensures ∙ ap₂ (λ (n t : ℕ). over (signed 8 n) (8 + t % 16)) b s) (c.over-4.ensures ∙ ap₂ (λ (n t : ℕ). over (signed 8 (n / 256)) (8 + t % 16)) b s)
+returns c = let b = c.word_at-second.ensures in let a = c.word_at-first.ensures in let s = c.word_at.ensures in four (c.signed_over.ensures ∙ ap₂ (λ (n t : ℕ). over (signed 8 n) (8 + t % 16)) a s) (c.signed_over-2.ensures ∙ ap₂ (λ (n t : ℕ). over (signed 8 (n / 256)) (8 + t % 16)) a s) (c.signed_over-3.ensures ∙ ap₂ (λ (n t : ℕ). over (signed 8 n) (8 + t % 16)) b s) (c.signed_over-4.ensures ∙ ap₂ (λ (n t : ℕ). over (signed 8 (n / 256)) (8 + t % 16)) b s)

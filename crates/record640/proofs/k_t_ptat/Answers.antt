@@ -8,4 +8,4 @@ use Rattle.record640.proofs.k_t_ptat.Goals as goal
 
 pub returns : goal.returns
 unfolding k_t_ptat
-returns c = c.over.ensures ∙ ap (λ (n : ℕ). over (signed 10 n) 3) c.word_at.ensures
+returns c = c.signed_over.ensures ∙ ap (λ (n : ℕ). over (signed 10 n) 3) c.word_at.ensures

@@ -8,4 +8,4 @@ use Rattle.record640.proofs.k_ta_cp.Goals as goal
 
 pub returns : goal.returns
 unfolding k_ta_cp
-returns c = c.over.ensures ∙ ap₂ (λ (n s : ℕ). over (signed 8 n) (8 + s / 16 % 16)) c.word_at-2.ensures c.word_at.ensures
+returns c = c.signed_over.ensures ∙ ap₂ (λ (n s : ℕ). over (signed 8 n) (8 + s / 16 % 16)) c.word_at-2.ensures c.word_at.ensures

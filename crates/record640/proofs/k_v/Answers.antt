@@ -13,4 +13,4 @@ four p q r s = rw (p, q, r, s)
 
 pub returns : goal.returns
 unfolding k_vs
-returns c = let w = c.word_at-word.ensures in let s = c.word_at.ensures in four (c.over.ensures ∙ ap₂ (λ (n t : ℕ). over (signed 4 (n / 4096)) (t / 256 % 16)) w s) (c.over-2.ensures ∙ ap₂ (λ (n t : ℕ). over (signed 4 (n / 256)) (t / 256 % 16)) w s) (c.over-3.ensures ∙ ap₂ (λ (n t : ℕ). over (signed 4 (n / 16)) (t / 256 % 16)) w s) (c.over-4.ensures ∙ ap₂ (λ (n t : ℕ). over (signed 4 n) (t / 256 % 16)) w s)
+returns c = let w = c.word_at-word.ensures in let s = c.word_at.ensures in four (c.signed_over.ensures ∙ ap₂ (λ (n t : ℕ). over (signed 4 (n / 4096)) (t / 256 % 16)) w s) (c.signed_over-2.ensures ∙ ap₂ (λ (n t : ℕ). over (signed 4 (n / 256)) (t / 256 % 16)) w s) (c.signed_over-3.ensures ∙ ap₂ (λ (n t : ℕ). over (signed 4 (n / 16)) (t / 256 % 16)) w s) (c.signed_over-4.ensures ∙ ap₂ (λ (n t : ℕ). over (signed 4 n) (t / 256 % 16)) w s)
