@@ -1,24 +1,23 @@
 -- Encoding data that fit 11 bits, and what codewords decode to. Assumes nothing.
 use Prim.Native.Nat.{ℕ, ◌%◌, ◌<◌}
-use mathlib.Core.Path.{◌≡◌, sym, ap, ◌∙◌}
+use mathlib.Core.Path.{◌≡◌, refl, sym, ap, ◌∙◌}
 use mathlib.Core.Bool.{Bool, true}
 use native.Mathlib.Omega.{arith}
 use borrow.Author.Tests.{lt-ltb, eq-eqb, eqb-true}
 use Rattle.lists.specs.Pick.{pick}
 use Rattle.refusal.specs.declared.Refusal.{Refusal}
-use Rattle.refusal.specs.declared.Refusal.TheVariants.{DataTooLarge}
 use Rattle.hamming.specs.Word.{says, data_values, with_four, encoded, data_of, codeword, place, mended, decoded}
 use Rattle.hamming.specs.Answer.{encode_answer}
-use Rattle.hamming.specs.declared.Encoded.TheVariants.{Word, Refused}
+use Rattle.std.specs.Prelude.{Result, Ok, Err}
 
-pub encode-fits : (d : ℕ) → d < data_values → encode_answer d ≡ Word (encoded d)
+pub encode-fits : (d : ℕ) → d < data_values → encode_answer d ≡ Ok (encoded d)
 unfolding encode_answer
-encode-fits d h = ap (λ (b : Bool). pick b (Word (encoded d)) (Refused (DataTooLarge d))) (lt-ltb d data_values h)
+encode-fits d h = rw (lt-ltb d data_values h) refl
 
-pub same_word : (v w : ℕ) → Word v ≡ Word w → v ≡ w
+pub same_word : (v w : ℕ) → ◌≡◌ {A = Result ℕ Refusal} (Ok v) (Ok w) → v ≡ w
 same_word v w e = cc
 
-pub no_word : (f : Refusal) (w : ℕ) → Refused f ≡ Word w → ⊥
+pub no_word : (f : Refusal) (w : ℕ) → ◌≡◌ {A = Result ℕ Refusal} (Err f) (Ok w) → ⊥
 no_word f w e = let z : ◌≡◌ {A = ℕ} 0 1 = cc in omega arith
 
 -- the data bits of an encoded word are its data

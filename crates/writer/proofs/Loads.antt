@@ -1,25 +1,25 @@
 -- A card that was read and written again loads as before: the same result, and the same tables. Assumes nothing.
 use Prim.Native.Nat.{ℕ, ◌≤◌}
-use mathlib.Core.Path.{◌≡◌, sym, ap, ◌∙◌}
+use mathlib.Core.Path.{◌≡◌, refl, sym, ap, ◌∙◌}
 use mathlib.Core.List.{List, ◌∷◌}
 use borrow.Author.Tests.{le-ltb}
 use native.Mathlib.Nat.{le_of_eq}
 use lib.Dec.{ltb}
 use lib.ListN.{length}
 use Rattle.refusal.specs.declared.Refusal.TheVariants.{ShortTable}
-use Rattle.refusal.specs.declared.Verdict.{Verdict}
-use Rattle.refusal.specs.declared.Verdict.TheVariants.{Pass}
+use Rattle.std.specs.Prelude.{⊤, Result, Ok, Err}
+use Rattle.refusal.specs.declared.Refusal.{Refusal}
 use Rattle.refusal.specs.Refusal.{unless}
 use Rattle.refusal.specs.Order.{◌refuses◌, first_of}
 use Rattle.map.specs.Map.{card_words, image_bytes, frame_pixels}
 use Rattle.card.specs.Card.{data_at, first_damaged}
-use Rattle.calibration.specs.Calibration.{calibration_of, no_calibration}
+use Rattle.calibration.specs.Calibration.{calibration_of}
 use Rattle.eeprom.specs.declared.Loaded.{Loaded}
-use Rattle.eeprom.specs.Load.{Tables, shortest, filled_tables, data_tests, load_tests, load_verdict, Loads}
+use Rattle.eeprom.specs.Load.{Tables, shortest, filled_tables, data_tests, load_tests, load_verdict, giving, loaded, Loads}
 use Rattle.listing.specs.Index.{Lists}
 use Rattle.listing.specs.Read.{Reads}
 use Rattle.writer.specs.Write.{Writes}
-use Rattle.writer.specs.Round.{firsts}
+use Rattle.writer.specs.Round.{firsts, record_in}
 use Rattle.writer.proofs.Round.{none-damaged, back-data, held_after, length-after, taken}
 
 -- for a card of full length without damaged words, the tests that remain
@@ -36,24 +36,29 @@ same-verdict image other e h k n m range t =
     ∙ ap (λ (w : ℕ → ℕ). first_of (ltb (shortest t) frame_pixels refuses ShortTable ∷ data_tests w range)) e
     ∙ sym (rest_of image range (shortest t) h n)
 
+-- the record of a load that is not refused, or the refusal
+recorded : (image : List ℕ) (range : ℕ) (v : Result ⊤ Refusal) → record_in (giving v (loaded image range)) ≡ giving v (calibration_of (data_at image) range)
+recorded image range (Ok tt) = refl
+recorded image range (Err refusal) = refl
+
 -- two cards with the same data and the same verdicts load alike
 module _ (image other : List ℕ) (e : data_at other ≡ data_at image) (alike : (range : ℕ) (t : Tables) → load_verdict other range t ≡ load_verdict image range t) where
-  pub same_load : {range : ℕ} {t x y : Tables} {q s : Loaded} → Loads image range t x q → Loads other range t y s → (s.verdict ≡ q.verdict) × (s.calibration ≡ q.calibration) × (y ≡ x)
+  pub same_load : {range : ℕ} {t x y : Tables} {q s : Result Loaded Refusal} → Loads image range t x q → Loads other range t y s → (record_in s ≡ record_in q) × (y ≡ x)
   same_load {range} {t} {x} {y} {q} {s} p o =
-      let v : s.verdict ≡ q.verdict = o.verdict ∙ alike range t ∙ sym p.verdict in (
-        v,
-        o.calibration
-            ∙ ap (λ (z : Verdict). unless z (calibration_of (data_at other) range) no_calibration) v
-            ∙ ap (λ (w : ℕ → ℕ). unless q.verdict (calibration_of w range) no_calibration) e
-            ∙ sym p.calibration,
+      let v = load_verdict image range t in (
+        ap record_in o.result
+            ∙ recorded other range (load_verdict other range t)
+            ∙ ap (λ (z : Result ⊤ Refusal). giving z (calibration_of (data_at other) range)) (alike range t)
+            ∙ ap (λ (w : ℕ → ℕ). giving v (calibration_of w range)) e
+            ∙ sym (ap record_in p.result ∙ recorded image range v),
         o.lent
-            ∙ ap (λ (z : Verdict). unless z (filled_tables (data_at other) t) t) v
-            ∙ ap (λ (w : ℕ → ℕ). unless q.verdict (filled_tables w t) t) e
+            ∙ ap (λ (z : Result ⊤ Refusal). unless z (filled_tables (data_at other) t) t) (alike range t)
+            ∙ ap (λ (w : ℕ → ℕ). unless v (filled_tables w t) t) e
             ∙ sym p.lent,
       )
 
-pub back-loads : {image before after : List ℕ} {b a : Lists} {r : Verdict} → Reads image b a Pass → image_bytes ≤ length before → Writes (firsts a) before after r
-    → {range : ℕ} {t x y : Tables} {q s : Loaded} → Loads image range t x q → Loads after range t y s → (s.verdict ≡ q.verdict) × (s.calibration ≡ q.calibration) × (y ≡ x)
+pub back-loads : {image before after : List ℕ} {b a : Lists} {r : Result ⊤ Refusal} → Reads image b a (Ok tt) → image_bytes ≤ length before → Writes (firsts a) before after r
+    → {range : ℕ} {t x y : Tables} {q s : Result Loaded Refusal} → Loads image range t x q → Loads after range t y s → (record_in s ≡ record_in q) × (y ≡ x)
 back-loads {image} {before} {after} {b} {a} d l w p o =
     let t = taken d l w in
     same_load image after (back-data d l w)

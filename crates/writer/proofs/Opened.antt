@@ -9,7 +9,7 @@ use lib.Dec.{leb}
 use lib.ListN.{get_or}
 use Rattle.lists.specs.First.{first_from}
 use Rattle.lists.proofs.First.{is-first, first-is}
-use Rattle.refusal.specs.declared.Verdict.TheVariants.{Pass}
+use Rattle.std.specs.Prelude.{Ok}
 use Rattle.refusal.specs.Order.{first_of}
 use Rattle.refusal.proofs.Order.{passed}
 use Rattle.hamming.specs.Word.{data_values}
@@ -19,7 +19,7 @@ use Rattle.writer.specs.Write.{first_large, write_tests}
 use Rattle.writer.specs.Inner.{Fit}
 
 -- the lists fit, and the image is long enough
-pub opened : (from : Lists) (image : ℕ) → first_of (write_tests from image) ≡ Pass → Fit from × (image_bytes ≤ image)
+pub opened : (from : Lists) (image : ℕ) → first_of (write_tests from image) ≡ Ok tt → Fit from × (image_bytes ≤ image)
 unfolding write_tests first_large
 opened from image e =
     let p = passed _ _ _ e in
@@ -37,7 +37,7 @@ opened from image e =
     )
 
 -- such lists and images are not refused
-pub closed : (from : Lists) (image : ℕ) → Fit from → image_bytes ≤ image → first_of (write_tests from image) ≡ Pass
+pub closed : (from : Lists) (image : ℕ) → Fit from → image_bytes ≤ image → first_of (write_tests from image) ≡ Ok tt
 unfolding write_tests first_of first_large
 closed from image f h =
     let p : ℕ → Bool = λ index. leb data_values (get_or from.checked index 0) in

@@ -15,8 +15,8 @@ use Rattle.lists.specs.Pick.{pick}
 use Rattle.lists.specs.Written.{filled}
 use Rattle.lists.proofs.First.{first-is, is-first}
 use Rattle.lists.proofs.Written.{written_at, length-written}
-use Rattle.refusal.specs.declared.Verdict.{Verdict}
-use Rattle.refusal.specs.declared.Verdict.TheVariants.{Pass}
+use Rattle.std.specs.Prelude.{⊤, Result, Ok}
+use Rattle.refusal.specs.declared.Refusal.{Refusal}
 use Rattle.refusal.specs.Refusal.{unless}
 use Rattle.util.specs.Words.{word_at}
 use Rattle.hamming.specs.Word.{says, data_values, encoded, codeword, decoded}
@@ -200,12 +200,12 @@ module _ (image : List ℕ) (y : Bytes image) where
 
 -- ---- the round trips
 
--- if the verdict is `Pass`, the new value is the result
-new-if : {A : Type 0} {r : Verdict} (new old : A) {x : A} → r ≡ Pass → x ≡ unless r new old → x ≡ new
-new-if new old e p = p ∙ ap (λ (v : Verdict). unless v new old) e
+-- if the verdict is `Ok`, the new value is the result
+new-if : {A : Type 0} {r : Result ⊤ Refusal} (new old : A) {x : A} → r ≡ Ok tt → x ≡ unless r new old → x ≡ new
+new-if new old e p = p ∙ ap (λ (v : Result ⊤ Refusal). unless v new old) e
 
 -- a written card holds its lists, and is clean
-pub written_back : {from : Lists} {before after : List ℕ} → Writes from before after Pass → Holds from after × Clean after
+pub written_back : {from : Lists} {before after : List ℕ} → Writes from before after (Ok tt) → Holds from after × Clean after
 written_back {from} {before} w =
     let f = writing.opened from (length before) (sym w.verdict) in (
       subst (Holds from) (sym w.image) (written-holds from before f.0 f.1),
@@ -213,7 +213,7 @@ written_back {from} {before} w =
     )
 
 -- reading a written card returns the lists
-module _ {from b a : Lists} {before after : List ℕ} {r : Verdict} (w : Writes from before after Pass) (i : checked_words ≤ length b.checked)
+module _ {from b a : Lists} {before after : List ℕ} {r : Result ⊤ Refusal} (w : Writes from before after (Ok tt)) (i : checked_words ≤ length b.checked)
     (j : unchecked_words ≤ length b.unchecked) (d : Reads after b a r) where
   fits : Fit from × (image_bytes ≤ length before)
   fits = writing.opened from (length before) (sym w.verdict)
@@ -233,10 +233,10 @@ module _ {from b a : Lists} {before after : List ℕ} {r : Verdict} (w : Writes 
     none = le_of_eq (none-damaged after from holds);
   }
 
-  read-passes : r ≡ Pass
+  read-passes : r ≡ Ok tt
   read-passes = d.verdict ∙ reading.closed after (length b.checked) (length b.unchecked) sound
 
-  pub read_back : (r ≡ Pass) × (firsts a ≡ from)
+  pub read_back : (r ≡ Ok tt) × (firsts a ≡ from)
   read_back = (
     read-passes,
     ap firsts (new-if _ _ read-passes d.lent)
@@ -245,7 +245,7 @@ module _ {from b a : Lists} {before after : List ℕ} {r : Verdict} (w : Writes 
   )
 
 -- writing the lists that were read gives a clean card with the same data, and the same bytes if the card that was read is clean
-module _ {image before after : List ℕ} {b a : Lists} {r : Verdict} (d : Reads image b a Pass) (l : image_bytes ≤ length before)
+module _ {image before after : List ℕ} {b a : Lists} {r : Result ⊤ Refusal} (d : Reads image b a (Ok tt)) (l : image_bytes ≤ length before)
     (w : Writes (firsts a) before after r) where
   pub taken : reading.Sound image (length b.checked) (length b.unchecked)
   taken = reading.opened image (length b.checked) (length b.unchecked) (sym d.verdict)
@@ -256,7 +256,7 @@ module _ {image before after : List ℕ} {b a : Lists} {r : Verdict} (d : Reads 
   held : Holds (firsts a) image
   held = subst (λ (x : Lists). Holds (firsts x) image) (sym d.lent) (got-holds image b taken)
 
-  pub write-passes : r ≡ Pass
+  pub write-passes : r ≡ Ok tt
   write-passes = w.verdict ∙ writing.closed (firsts a) (length before) fit l
 
   image-is : after ≡ image_from (firsts a) before

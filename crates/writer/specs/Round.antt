@@ -1,9 +1,12 @@
 -- Definitions for the round-trip theorems of proofs/Round: a card that holds two lists, and a clean card. Assumes nothing.
-use Rattle.std.specs.Prelude.{ℕ, ◌<◌, ◌≡◌, true, false, List, get_or, take}
+use Rattle.std.specs.Prelude.{ℕ, ◌<◌, ◌≡◌, true, false, List, get_or, take, Result, Ok, Err}
 use Rattle.util.specs.Words.{word_at}
 use Rattle.hamming.specs.Word.{says, codeword}
+use Rattle.refusal.specs.declared.Refusal.{Refusal}
 use Rattle.map.specs.Map.{card_words, checked_words, checked}
 use Rattle.card.specs.Card.{read_at}
+use Rattle.calibration.specs.declared.Calibration.{Calibration}
+use Rattle.eeprom.specs.declared.Loaded.{Loaded}
 use Rattle.listing.specs.Index.{Lists, lists, unchecked, unchecked_words, list_index}
 
 -- an image holds two lists: each checked word decodes to its entry of the first, and each unchecked word equals its entry of the second
@@ -22,3 +25,8 @@ Bytes image = (k : ℕ) → get_or image k 0 < 256
 -- the first 814 and 18 entries of lists that may be longer
 abbrev pub firsts : Lists → Lists
 firsts l = lists (take checked_words l.checked) (take unchecked_words l.unchecked)
+
+-- what a load says of the card but for its mended words: the refusal, or the record
+abbrev pub record_in : Result Loaded Refusal → Result Calibration Refusal
+record_in (Ok loaded) = Ok loaded.calibration
+record_in (Err refusal) = Err refusal

@@ -1,10 +1,10 @@
 -- Writing a card, document 02's request 2: what stops it, lowest number first, and the image that it writes. Assumes nothing.
-use Rattle.std.specs.Prelude.{ℕ, ◌/◌, ◌%◌, ◌≡◌, not, List, [], ◌∷◌, eqb, leb, ltb, length, get_or}
+use Rattle.std.specs.Prelude.{ℕ, ◌/◌, ◌%◌, ◌≡◌, not, List, [], ◌∷◌, eqb, leb, ltb, length, get_or, ⊤, Result}
 use Rattle.lists.specs.Pick.{pick}
 use Rattle.lists.specs.First.{first_from}
 use Rattle.lists.specs.Written.{filled}
 use Rattle.refusal.specs.declared.Refusal.TheVariants.{ListLength, ShortTable, ListedDataTooLarge}
-use Rattle.refusal.specs.declared.Verdict.{Verdict}
+use Rattle.refusal.specs.declared.Refusal.{Refusal}
 use Rattle.refusal.specs.Refusal.{unless}
 use Rattle.refusal.specs.Order.{Test, ◌refuses◌, first_of}
 use Rattle.hamming.specs.Word.{data_values, encoded}
@@ -44,6 +44,6 @@ write_tests from image =
 -- ---- the contract
 
 -- the contract of `write`: its lists, the image before and after, and its verdict r
-pub record Writes (from : Lists) (before after : List ℕ) (r : Verdict) : Type 0 where
+pub record Writes (from : Lists) (before after : List ℕ) (r : Result ⊤ Refusal) : Type 0 where
   pub verdict : r ≡ first_of (write_tests from (length before))
   pub image : after ≡ unless r (image_from from before) before

@@ -4,12 +4,13 @@
 ghost use Rattle.std.specs.Prelude.{◌≡◌, ◌+◌, ◌*◌, ◌/◌, ◌%◌, ◌<◌, ◌≤◌, length, set};
 ghost use Rattle.refusal.specs.Order.{first_of};
 ghost use Rattle.hamming.specs.Word.{data_values, encoded};
+ghost use Rattle.util.specs.Found.{found_below};
 ghost use Rattle.map.specs.Map.{card_words, image_bytes, checked_words, checked};
 ghost use Rattle.listing.specs.Index.{lists, list_index};
 ghost use Rattle.writer.specs.Write.{word_from, image_from, first_large, write_tests, Writes};
 ghost use Rattle.writer.specs.Inner.{Fit};
 
-use hamming::{DATA_VALUES, Encoded};
+use hamming::DATA_VALUES;
 use listing::{CHECKED_WORDS, UNCHECKED_WORDS};
 use map::{IMAGE_BYTES, WORDS};
 use refusal::{Refusal, Verdict};
@@ -19,10 +20,9 @@ pub fn codeword(data: u16) -> u16
     requires { «data» < data_values }
     ensures { result ≡ encoded «data» }
 {
-    let answer = hamming::encode(data);
-    match answer {
-        Encoded::Word(word) => word,
-        Encoded::Refused(_) => 0,
+    match hamming::encode(data) {
+        Ok(word) => word,
+        Err(_) => 0,
     }
 }
 
@@ -69,31 +69,19 @@ fn put_words(image: &mut [u8], data: &[u16], others: &[u16])
     requires image_bytes_in_bounds { image_bytes ≤ length image.old }
     ensures { image.new ≡ image_from (lists «data».now others.now) image.old }
 {
-    let mut word: usize = 0;
-    let mut before: usize = 0;
-    while word < WORDS {
+    let mut before = 0;
+    for word in 0..WORDS {
         put_word(image, word, word_from(data, others, word, before));
         before = past(word, before);
-        word += 1;
     }
 }
 
-// The index of the first of the 814 data values that is above 2047, or 814 if none is.
-fn first_large(data: &[u16]) -> usize
+// The index of the first of the 814 data values that is above 2047.
+fn first_large(data: &[u16]) -> Option<usize>
     requires { length «data».now ≡ checked_words }
-    ensures { result ≡ first_large «data».now }
+    ensures { result ≡ found_below checked_words (first_large «data».now) }
 {
-    let mut index: usize = 0;
-    let place = loop {
-        if index == CHECKED_WORDS {
-            break CHECKED_WORDS;
-        }
-        if DATA_VALUES <= data[index] {
-            break index;
-        }
-        index += 1;
-    };
-    place
+    data.iter().position(|&value| DATA_VALUES <= value)
 }
 
 // Runs all tests for writing to an image of this length, lowest refusal number first.
@@ -102,31 +90,29 @@ fn write_gate(image: usize, data: &[u16], others: &[u16]) -> Verdict
 {
     let length = data.len();
     if length != CHECKED_WORDS {
-        return Verdict::Refused(Refusal::ListLength { length });
+        return Err(Refusal::ListLength { length });
     }
     let length = others.len();
     if length != UNCHECKED_WORDS {
-        return Verdict::Refused(Refusal::ListLength { length });
+        return Err(Refusal::ListLength { length });
     }
     if image < IMAGE_BYTES {
-        return Verdict::Refused(Refusal::ShortTable);
+        return Err(Refusal::ShortTable);
     }
-    let index = first_large(data);
-    if index < CHECKED_WORDS {
-        let data = data[index];
-        return Verdict::Refused(Refusal::ListedDataTooLarge { index, data });
+    match first_large(data) {
+        Some(index) => {
+            let data = data[index];
+            Err(Refusal::ListedDataTooLarge { index, data })
+        },
+        None => Ok(()),
     }
-    Verdict::Pass
 }
 
 // Writes a card, given the data of its 814 checked words and its 18 unchecked words in reading order, to the first 1,664 bytes of an image.
 pub fn write(data: &[u16], others: &[u16], image: &mut [u8]) -> Verdict
     ensures { Writes (lists «data».now others.now) image.old image.new result }
 {
-    let verdict = write_gate(image.len(), data, others);
-    let Verdict::Pass = verdict else {
-        return verdict;
-    };
+    write_gate(image.len(), data, others)?;
     put_words(image, data, others);
-    verdict
+    Ok(())
 }

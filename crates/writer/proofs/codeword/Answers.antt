@@ -3,12 +3,8 @@ use mathlib.Core.Path.{sym, ◌∙◌}
 use Rattle.writer.proofs.Codes.{encode-fits, same_word, no_word}
 use Rattle.writer.proofs.codeword.Goals as goal
 
-pub returns-in-Word : goal.returns-in-Word
-returns-in-Word c =
-    let s = c in
-    same_word _ _ (sym c.in-Word.is ∙ c.encode-answer.ensures ∙ encode-fits _ s.requires)
+pub returns-in-Ok : goal.returns-in-Ok
+returns-in-Ok c = same_word _ _ (sym c.in-Ok.is ∙ c.encode.ensures ∙ encode-fits _ c.requires)
 
-pub returns-in-Refused : goal.returns-in-Refused
-returns-in-Refused c =
-    let s = c in
-    absurd (no_word _ _ (sym c.in-Refused.is ∙ c.encode-answer.ensures ∙ encode-fits _ s.requires))
+pub returns-in-Err : goal.returns-in-Err
+returns-in-Err c = absurd (no_word _ _ (sym c.in-Err.is ∙ c.encode.ensures ∙ encode-fits _ c.requires))

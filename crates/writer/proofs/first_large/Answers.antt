@@ -1,40 +1,29 @@
--- `writer::first_large` meets its contract. In each iteration no entry before the current one is too large. Assumes nothing.
-use mathlib.Core.Path.{refl, sym, ◌∙◌}
-use borrow.Author.Tests.{le-leb, lt-leb}
-use native.Mathlib.Omega.{arith}
-use Rattle.lists.proofs.First.{found, further, ended}
+-- `writer::first_large` meets its contract: `position` stops at the first entry that is too large. Assumes nothing.
+use Rattle.std.proofs.Common.{◌≡◌, ℕ, ◌<◌, Bool, true, false, List, Option, None, Some, length, leb, le-leb, arith, rules, tests}
+use Rattle.std.proofs.lemmas.Bool.{lt-leb}
+use Rattle.std.proofs.lemmas.Iterator.{YieldsList-from_slice, IsFirst-from_position}
+use Rattle.std.specs.Prelude.{MatchOption}
+use Rattle.std.specs.List.{AllWithin, HoldsAt}
+use Rattle.hamming.specs.Word.{data_values}
+use Rattle.util.specs.Found.{found_below}
+use Rattle.util.proofs.Found.{found-at, found-none}
 use Rattle.map.specs.Map.{checked_words}
 use Rattle.writer.specs.Write.{first_large}
 use Rattle.writer.proofs.first_large.Goals as goal
-use Rattle.writer.proofs.first_large.Invariants.{large}
 
-pub loop-index-init : goal.loop-index-init
+abbrev Is : Bool → ℕ → Type 0
+Is b value = leb data_values value ≡ b
+
+by-place : (list : List ℕ) (r : Option ℕ) → length list ≡ checked_words
+    → MatchOption r (AllWithin (Is false) list 0 (length list)) (λ i. (i < length list) × HoldsAt (Is true) list i × AllWithin (Is false) list 0 i)
+    → r ≡ found_below checked_words (first_large list)
 unfolding first_large
-loop-index-init c = (omega arith, refl)
+by-place list None e h = found-none _ checked_words (λ k l. h k 0 (omega arith) (omega arith))
+by-place list (Some i) e h = found-at _ checked_words i (let l = h.0 in omega arith) (h.1 0) (λ k l. h.2 k 0 (omega arith) l)
 
-pub loop-index-preserved : goal.loop-index-preserved
-loop-index-preserved c =
-    let l = c.loop-index in
-    let p = large c.args.«data».now in
-    (omega arith, sym (further p l.index checked_words (omega arith) (lt-leb _ _ c.if-data-index-ge-DATA_VALUES.false)) ∙ l.invariant.1)
-
-pub returns-then-index-eq-CHECKED_WORDS : goal.returns-then-index-eq-CHECKED_WORDS
-returns-then-index-eq-CHECKED_WORDS c = sym (ended _ checked_words) ∙ (rw c.if-index-eq-CHECKED_WORDS.true at c.loop-index.invariant.1)
-
-pub returns-then-data-index-ge-DATA_VALUES : goal.returns-then-data-index-ge-DATA_VALUES
-returns-then-data-index-ge-DATA_VALUES c =
-    let l = c.loop-index in
-    let p = large c.args.«data».now in
-    sym (found p l.index checked_words (omega arith) (le-leb _ _ c.if-data-index-ge-DATA_VALUES.true)) ∙ l.invariant.1
-
-pub offset_bounds-data-index : goal.offset_bounds-data-index
-offset_bounds-data-index c = omega arith
-
-pub bounds-data-index : goal.bounds-data-index
-bounds-data-index c = omega arith
-
-pub overflow_add-index : goal.overflow_add-index
-overflow_add-index c = omega arith
-
-pub loop-index-smaller : goal.loop-index-smaller
-loop-index-smaller c = omega arith
+pub returns : goal.returns
+returns c =
+    by-place c.args.«data».now _ c.requires
+    (IsFirst-from_position _ _ _ (Is true) (Is false) c.position.ensures.ran (YieldsList-from_slice c.args.«data».now c.iter.ensures.rest)
+    (λ x q k. le-leb _ _ (search (rules, tests)))
+    (λ x q k. (search rules, lt-leb _ _ (search (rules, tests)))))

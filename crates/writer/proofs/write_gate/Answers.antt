@@ -1,7 +1,7 @@
 -- `writer::write_gate` meets its contract: each return is one line of the list of tests. Assumes nothing.
 use borrow.Author.Tests.{lt-ltb, le-ltb, eq-eqb, ne_eqb}
-use Prim.Native.Nat.{◌<◌, ◌≤◌}
-use native.Mathlib.Omega.{arith}
+use mathlib.Core.Path.{sym, ◌∙◌}
+use Rattle.util.proofs.Found.{some-below, none-below}
 use Rattle.refusal.specs.Order.{first_of}
 use Rattle.map.specs.Map.{checked_words}
 use Rattle.writer.specs.Write.{first_large, write_tests}
@@ -19,29 +19,24 @@ pub returns-then-image-lt-IMAGE_BYTES : goal.returns-then-image-lt-IMAGE_BYTES
 unfolding write_tests first_of
 returns-then-image-lt-IMAGE_BYTES c = simp (eq-eqb _ _ (c.if-length-ne-CHECKED_WORDS.false), eq-eqb _ _ (c.if-length-ne-UNCHECKED_WORDS.false), lt-ltb _ _ c.if-image-lt-IMAGE_BYTES.true)
 
-pub returns-then-index-lt-CHECKED_WORDS : goal.returns-then-index-lt-CHECKED_WORDS
+pub returns-in-Some : goal.returns-in-Some
 unfolding write_tests first_of
-returns-then-index-lt-CHECKED_WORDS c =
-    let g = c in
-    let e = g.first_large-index.ensures in
-    let h : first_large g.args.«data».now < checked_words = let t = c.if-index-lt-CHECKED_WORDS.true in omega arith in
+returns-in-Some c =
+    let f = some-below checked_words (first_large c.args.«data».now) (sym c.first_large.ensures ∙ c.in-Some.is) in
     simp (
-      e,
-      eq-eqb _ _ (g.if-length-ne-CHECKED_WORDS.false),
-      eq-eqb _ _ (g.if-length-ne-UNCHECKED_WORDS.false),
-      le-ltb _ _ (g.if-image-lt-IMAGE_BYTES.false),
-      lt-ltb _ _ h,
+      sym f.0,
+      eq-eqb _ _ (c.if-length-ne-CHECKED_WORDS.false),
+      eq-eqb _ _ (c.if-length-ne-UNCHECKED_WORDS.false),
+      le-ltb _ _ (c.if-image-lt-IMAGE_BYTES.false),
+      lt-ltb _ _ f.1,
     )
 
-pub returns : goal.returns
+pub returns-in-None : goal.returns-in-None
 unfolding write_tests first_of
-returns c =
-    let g = c in
-    let e = g.first_large-index.ensures in
-    let h : checked_words ≤ first_large g.args.«data».now = let t = c.if-index-lt-CHECKED_WORDS.false in omega arith in
+returns-in-None c =
     simp (
-      eq-eqb _ _ (g.if-length-ne-CHECKED_WORDS.false),
-      eq-eqb _ _ (g.if-length-ne-UNCHECKED_WORDS.false),
-      le-ltb _ _ (g.if-image-lt-IMAGE_BYTES.false),
-      le-ltb _ _ h,
+      eq-eqb _ _ (c.if-length-ne-CHECKED_WORDS.false),
+      eq-eqb _ _ (c.if-length-ne-UNCHECKED_WORDS.false),
+      le-ltb _ _ (c.if-image-lt-IMAGE_BYTES.false),
+      le-ltb _ _ (none-below checked_words (first_large c.args.«data».now) (sym c.first_large.ensures ∙ c.in-None.is)),
     )
