@@ -8,7 +8,7 @@ ghost use Rattle.root.specs.Root.{root};
 ghost use Rattle.hamming.specs.Answer.{encode_answer, check_answer};
 ghost use Rattle.capi_words.specs.Border.{good_word, refused_word, encoded_out, checked_out};
 
-use hamming::{Checked, Encoded};
+use hamming::Checked;
 use refusal::Refusal;
 
 // The result of a call on a chip word: number, place and value of the refusal, all 0 for none; and the word or its data, 0 after a refusal. If a checked word
@@ -66,10 +66,9 @@ fn good_word(word: u16, mended: u8, bit: u8) -> Word
 pub extern "C" fn loamchalice_encode(data: u16) -> Word
     ensures { result ≡ encoded_out (encode_answer «data») }
 {
-    let answer = hamming::encode(data);
-    match answer {
-        Encoded::Word(word) => good_word(word, 0, 0),
-        Encoded::Refused(refusal) => refused_word(refusal),
+    match hamming::encode(data) {
+        Ok(word) => good_word(word, 0, 0),
+        Err(too_large) => refused_word(too_large),
     }
 }
 
@@ -78,10 +77,9 @@ pub extern "C" fn loamchalice_encode(data: u16) -> Word
 pub extern "C" fn loamchalice_check(word: u16) -> Word
     ensures { result ≡ checked_out (check_answer word) }
 {
-    let answer = hamming::check(word);
-    match answer {
-        Checked::Clean(data) => good_word(data, 0, 0),
-        Checked::Mended { data, bit } => good_word(data, 1, bit),
-        Checked::Refused(refusal) => refused_word(refusal),
+    match hamming::check(word) {
+        Ok(Checked::Clean(data)) => good_word(data, 0, 0),
+        Ok(Checked::Mended { data, bit }) => good_word(data, 1, bit),
+        Err(damaged) => refused_word(damaged),
     }
 }
