@@ -1,34 +1,43 @@
-// The board's lines on standard output: tab-separated fields, numbers in decimal. Each function returns false if writing failed.
+// The board's lines on standard output: tab-separated fields, numbers in decimal.
 #![tactic(auto)]
 
-use console::{put, tab_number};
+use console::Output;
 use eeprom::Loaded;
-use refusal::Verdict;
+use refusal::{Refusal, Verdict};
+use std::fmt;
+use std::fmt::Write;
 
 // Writes the refusal's number, place and value, and the number of mended words.
-fn fields(verdict: Verdict, mended: u64) -> bool {
-    let told = verdict.told();
-    tab_number(told.number)
-        && tab_number(told.place)
-        && tab_number(told.value)
-        && tab_number(mended)
+fn fields(verdict: Verdict, mended: usize) -> fmt::Result {
+    let told = refusal::verdict_told(verdict);
+    write!(
+        Output,
+        "\t{}\t{}\t{}\t{mended}",
+        told.number, told.place, told.value
+    )
 }
 
-pub fn answer(loaded: Loaded) -> bool {
-    let verdict = loaded.verdict;
-    let mending = loaded.mending;
-    fields(verdict, mending.count as u64)
+// Writes the fields of a load's result; a refused load mends no word.
+pub fn answer(loaded: Result<Loaded, Refusal>) -> fmt::Result {
+    match loaded {
+        Ok(loaded) => fields(Ok(()), loaded.mending.count),
+        Err(refusal) => fields(Err(refusal), 0),
+    }
 }
 
 // Writes the line of a card whose words are never mended.
-pub fn plain_load_line(verdict: Verdict) -> bool {
-    put(b"load") && fields(verdict, 0) && put(b"\n")
+pub fn plain_load_line(verdict: Verdict) -> fmt::Result {
+    Output.write_str("load")?;
+    fields(verdict, 0)?;
+    Output.write_str("\n")
 }
 
-pub fn load_line(loaded: Loaded) -> bool {
-    put(b"load") && answer(loaded) && put(b"\n")
+pub fn load_line(loaded: Result<Loaded, Refusal>) -> fmt::Result {
+    Output.write_str("load")?;
+    answer(loaded)?;
+    Output.write_str("\n")
 }
 
-pub fn end_line(lines: u64) -> bool {
-    put(b"end") && tab_number(lines) && put(b"\n")
+pub fn end_line(lines: u64) -> fmt::Result {
+    writeln!(Output, "end\t{lines}")
 }
