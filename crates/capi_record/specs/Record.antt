@@ -1,19 +1,17 @@
 -- The record as C has it, with its gradient as a flag and a coefficient, and back; and the subpage of a number. Assumes nothing.
-use Rattle.std.specs.Prelude.{ℕ, eqb, Float}
+use Rattle.std.specs.Prelude.{ℕ, eqb, Float, Option, Some, None}
 use Rattle.floats.specs.Constants.{plus_zero}
 use Rattle.lists.specs.Pick.{pick}
 use Rattle.calibration.specs.declared.Calibration.{Calibration}
-use Rattle.camera.specs.declared.Gradient.{Gradient}
-use Rattle.camera.specs.declared.Gradient.TheVariants.{Coefficient, Missing}
 use Rattle.camera.specs.declared.Subpage.{Subpage}
 use Rattle.camera.specs.declared.Subpage.TheVariants.{Zero, One}
 use Rattle.capi_record.specs.declared.Record.{Record}
 use Rattle.capi_record.specs.declared.Flagged.{Flagged}
 
 -- the gradient as C has it: no gradient is the flag 0 and the coefficient +0
-abbrev pub gradient_out : Gradient → Flagged
-gradient_out (Coefficient g) = record { has = 1; coefficient = g }
-gradient_out Missing = record { has = 0; coefficient = plus_zero }
+abbrev pub gradient_out : Option Float → Flagged
+gradient_out (Some g) = record { has = 1; coefficient = g }
+gradient_out None = record { has = 0; coefficient = plus_zero }
 
 -- the record as C has it
 abbrev pub record_out : Calibration → Record
@@ -40,8 +38,8 @@ record_out c = record {
 }
 
 -- the gradient from C's: the flag 0 is no gradient
-abbrev pub gradient_in : ℕ → Float → Gradient
-gradient_in has g = pick (eqb has 0) Missing (Coefficient g)
+abbrev pub gradient_in : ℕ → Float → Option Float
+gradient_in has g = pick (eqb has 0) None (Some g)
 
 -- the record from C's
 abbrev pub record_in : Record → Calibration

@@ -5,7 +5,7 @@ ghost use Rattle.std.specs.Prelude.{◌≡◌};
 ghost use Rattle.capi_record.specs.Record.{gradient_out, record_out, gradient_in, record_in, subpage_of};
 
 use calibration::Calibration;
-use camera::{Gradient, Subpage};
+use camera::Subpage;
 
 // The calibration record. If `has_gradient` is 0 there is no gradient, and `gradient` is not read.
 #[repr(C)]
@@ -32,7 +32,7 @@ pub struct Record {
     pub range_coefficients: [f32; 8],
 }
 
-// A gradient as a flag and a coefficient.
+// A gradient as a flag and a coefficient, as the C interface has it.
 #[derive(Clone, Copy)]
 pub struct Flagged {
     pub has: u8,
@@ -40,15 +40,15 @@ pub struct Flagged {
 }
 
 // Returns the gradient as C has it. No gradient is the flag 0 and the coefficient +0.
-pub fn gradient_out(gradient: Gradient) -> Flagged
+pub fn gradient_out(gradient: Option<f32>) -> Flagged
     ensures { result ≡ gradient_out gradient }
 {
     match gradient {
-        Gradient::Coefficient(coefficient) => Flagged {
+        Some(coefficient) => Flagged {
             has: 1,
             coefficient,
         },
-        Gradient::Missing => Flagged {
+        None => Flagged {
             has: 0,
             coefficient: 0.0,
         },
@@ -88,14 +88,10 @@ pub fn record_out(calibration: Calibration) -> Record
 }
 
 // Returns the gradient from C's flag and coefficient. The flag 0 is no gradient, whatever the coefficient.
-pub fn gradient_in(has: u8, coefficient: f32) -> Gradient
+pub fn gradient_in(has: u8, coefficient: f32) -> Option<f32>
     ensures { result ≡ gradient_in has coefficient }
 {
-    if has == 0 {
-        Gradient::Missing
-    } else {
-        Gradient::Coefficient(coefficient)
-    }
+    if has == 0 { None } else { Some(coefficient) }
 }
 
 // Returns the record that the inner calls take, from C's.
