@@ -66,7 +66,7 @@ calibration_of w b = record {
   range_coefficients = coefficients_of (ranges_of w) b;
 }
 
--- the record that a refused load returns: every number 0, and no gradient
+-- the record that C gets after a refused load: every number 0, and no gradient
 unfoldable pub no_calibration : Calibration
 no_calibration = record {
   k_s_ta = plus_zero;

@@ -271,7 +271,7 @@ pub fn read_calibration(words: &Words, basic_range: usize) -> Calibration
     }
 }
 
-// The record that a refused load returns: every number 0, and no gradient.
+// The record that C gets after a refused load: every number 0, and no gradient.
 pub fn no_calibration() -> Calibration
     ensures { result ≡ no_calibration }
 {

@@ -37,6 +37,6 @@ mending_below image n = record { count = count_below (stray_at image) n; last = 
 abbrev pub mending_of : List ℕ → Mending
 mending_of image = mending_below image card_words
 
--- the record of no such words, which a refused call returns
+-- the record of no such words, which C gets after a refused call
 abbrev pub no_mending : Mending
 no_mending = record { count = 0; last = card_words }
