@@ -1,9 +1,10 @@
 -- Document 01, with refusals 6 and 13 of document 02: what stops a load, lowest number first, and what a load returns and writes. Assumes nothing.
-use Rattle.std.specs.Prelude.{ℕ, min, ◌+◌, ◌*◌, ◌≡◌, List, [], ◌∷◌, leb, ltb, ℤ, length, Float, ⊤, Result, Ok, Err}
+use Rattle.std.specs.Prelude.{ℕ, min, ◌+◌, ◌*◌, ◌≡◌, List, [], ◌∷◌, leb, ltb, ℤ, length, Float, ⊤, Result}
 use Rattle.lists.specs.Written.{filled}
 use Rattle.refusal.specs.declared.Refusal.{Refusal}
 use Rattle.refusal.specs.declared.Refusal.TheVariants.{ShortImage, ShortTable, DamagedWord, LargeScale, BasicRange, ZeroFactor}
 use Rattle.refusal.specs.Refusal.{unless}
+pub use Rattle.refusal.specs.Refusal.{giving}
 use Rattle.refusal.specs.Order.{Test, ◌refuses◌, first_of}
 use Rattle.util.specs.Words.{word_at}
 use Rattle.map.specs.Map.{card_words, image_bytes, frame_pixels}
@@ -66,11 +67,6 @@ abbrev pub load_verdict : List ℕ → ℕ → Tables → Result ⊤ Refusal
 load_verdict image range t = first_of (load_tests image range (shortest t))
 
 -- ---- the contract
-
--- the value if nothing is refused, or the refusal
-abbrev pub giving : {A : Type 0} → Result ⊤ Refusal → A → Result A Refusal
-giving (Ok _) value = Ok value
-giving (Err refusal) value = Err refusal
 
 -- what a load of this image with this basic range returns if it is not refused
 abbrev pub loaded : List ℕ → ℕ → Loaded

@@ -1,9 +1,9 @@
 -- What the frame calls of any camera return, and the whole destination that they leave. Assumes nothing.
-use Rattle.std.specs.Prelude.{ℕ, min, ◌*◌, ◌≡◌, List, ℤ, get_or, length, ⊤, Result, Ok, Err, Option, None, Some, Float}
+use Rattle.std.specs.Prelude.{ℕ, min, ◌*◌, ◌≡◌, List, ℤ, get_or, length, ⊤, Result, Option, None, Some, Float}
 use Rattle.std.specs.Float.{nan, binary32}
 use Rattle.std.specs.Float.Ieee.{to_bits}
 use Rattle.floats.specs.Floats.{real}
-use Rattle.refusal.specs.Refusal.{unless}
+use Rattle.refusal.specs.Refusal.{unless, giving}
 use Rattle.refusal.specs.Order.{first_of}
 use Rattle.refusal.specs.declared.Refusal.{Refusal}
 use Rattle.formulas.specs.declared.CommonIrData.{CommonIrData}
@@ -25,8 +25,7 @@ frame_of t_a lost = record { t_a = t_a; lost = lost }
 
 -- the refusal of a verdict, or else `done`
 abbrev pub answer_by : Result ⊤ Refusal → Frame → Result Frame Refusal
-answer_by (Ok _) done = Ok done
-answer_by (Err refusal) done = Err refusal
+answer_by = giving
 
 -- what a frame call does, with destination d before and d' after, and result r: if the verdict refuses, r is that refusal and d is unchanged; or else each of
 -- the n pixels that the mask asks for is written as `bits k`, and r holds t_a and the number of pixels written as NaN (0x7FC00000)

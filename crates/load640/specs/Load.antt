@@ -1,10 +1,10 @@
 -- The MLX90640's paper, "When the gate says stop": what stops a load, lowest number first, and what a load leaves. `wordAt image` are a card's words.
 -- Assumes nothing.
-use Rattle.std.specs.Prelude.{ℕ, min, ◌≡◌, List, [], ◌∷◌, leb, ltb, ℤ, length, Float, ⊤, Result, Ok, Err}
+use Rattle.std.specs.Prelude.{ℕ, min, ◌≡◌, List, [], ◌∷◌, leb, ltb, ℤ, length, Float, ⊤, Result}
 use Rattle.lists.specs.Written.{filled}
 use Rattle.refusal.specs.declared.Refusal.TheVariants.{ShortImage, ShortTable, LargePixel, BasicRange, ZeroFactor}
 use Rattle.refusal.specs.declared.Refusal.{Refusal}
-use Rattle.refusal.specs.Refusal.{unless}
+use Rattle.refusal.specs.Refusal.{unless, giving}
 use Rattle.refusal.specs.Order.{Test, ◌refuses◌, first_of}
 use Rattle.util.specs.Words.{word_at}
 use Rattle.ranges.specs.Coefficients.{zero_factor}
@@ -61,12 +61,7 @@ load_verdict image range t = first_of (load_tests image range (shortest t))
 
 -- ---- the promise
 
--- the answer of a load: the record if nothing is refused, else the refusal
-abbrev pub answer_of : Result ⊤ Refusal → Calibration → Result Calibration Refusal
-answer_of (Ok _) calibration = Ok calibration
-answer_of (Err refusal) calibration = Err refusal
-
 -- what a load says of its image, the basic range, the tables before and after, and its answer
 pub record Loads (image : List ℕ) (range : ℕ) (before after : Tables) (r : Result Calibration Refusal) : Type 0 where
-  pub answer : r ≡ answer_of (load_verdict image range before) (calibration_of (word_at image) range)
+  pub answer : r ≡ giving (load_verdict image range before) (calibration_of (word_at image) range)
   pub lent : after ≡ unless (load_verdict image range before) (filled_tables (word_at image) before) before

@@ -36,3 +36,8 @@ verdict_told (Err refusal) = told_of refusal
 abbrev pub unless : {A : Type 0} → Result ⊤ Refusal → A → A → A
 unless (Ok _) new old = new
 unless (Err refusal) new old = old
+
+-- the answer of a call that gives a value: the value if nothing is refused, else the refusal
+abbrev pub giving : {A : Type 0} → Result ⊤ Refusal → A → Result A Refusal
+giving (Ok _) value = Ok value
+giving (Err refusal) value = Err refusal
