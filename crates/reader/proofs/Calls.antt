@@ -8,15 +8,15 @@ use lib.Dec.{eqb, ltb}
 use lib.ListN.{length, take, drop, take-append-drop, drop_of_length-le}
 use lib.Seq.{length-take-le}
 use borrow.Author.Tests.{lt-ltb, le-ltb, le-leb, ltb-true, ltb-false, eqb-true}
+use Rattle.std.specs.Prelude.{is_none}
 use Rattle.lists.specs.Pick.{pick}
 use Rattle.refusal.specs.declared.Refusal.TheVariants.{ShortImage, ShortTable}
 use Rattle.util.specs.Words.{word_at}
 use Rattle.map.specs.Map.{card_words, image_bytes, frame_pixels}
 use Rattle.eeprom.specs.Load.{Tables, shortest}
-use Rattle.reader.specs.declared.Answer.{Answer}
 use Rattle.reader.specs.declared.Reading.{Reading}
 use Rattle.reader.specs.Bytes.{Held, held, first_spoilt, kept_of, state_of}
-use Rattle.reader.specs.Calls.{more, refused, Judged, judged, judges, After, after, answering, takes_on, takes, finishes, Call, Event, took, finished, State, calling, leaves, after_calls, begun, brings, taken_of, judged_of, heard, said_by}
+use Rattle.reader.specs.Calls.{Answer, more, refused, Judged, judged, judges, After, after, answering, takes_on, takes, finishes, Call, Event, took, finished, State, calling, leaves, after_calls, begun, brings, taken_of, judged_of, heard, said_by}
 use Rattle.reader.proofs.Local.{word_more}
 use Rattle.reader.proofs.Taking.{after-damage, past-card}
 use Rattle.reader.proofs.Says.{Says, sound, spoilt, stands}
@@ -57,14 +57,14 @@ module _ (lent l : List ℕ) (card : length lent ≡ image_bytes) (range : ℕ) 
 -- ---- a call
 
 -- a reading that has ended repeats its answer and changes nothing
-pub ended-call : (s : State) (c : Call) → s.reading.answer.more ≡ false
+pub ended-call : (s : State) (c : Call) → is_none s.reading.answer ≡ false
     → calling s c ≡ after s.image c.lent (record { reading = s.reading; answer = s.reading.answer })
 unfolding takes
 ended-call s c e =
     ap (λ (b : Bool). pick b (takes_on s.image s.reading c.piece c.range c.lent) (after s.image c.lent (record { reading = s.reading; answer = s.reading.answer }))) e
 
 -- before that, short tables are refused: the state stays, and the reading has not ended
-pub short-call : (s : State) (c : Call) → s.reading.answer.more ≡ true → shortest c.lent < frame_pixels
+pub short-call : (s : State) (c : Call) → is_none s.reading.answer ≡ true → shortest c.lent < frame_pixels
     → calling s c ≡ after s.image c.lent (record { reading = s.reading; answer = refused ShortTable })
 unfolding takes takes_on
 short-call s c e h =
@@ -72,7 +72,7 @@ short-call s c e h =
     ∙ rw (lt-ltb _ _ h) refl
 
 -- an empty piece changes nothing
-pub empty-call : (s : State) (range : ℕ) (t : Tables) → s.reading.answer.more ≡ true → frame_pixels ≤ shortest t
+pub empty-call : (s : State) (range : ℕ) (t : Tables) → is_none s.reading.answer ≡ true → frame_pixels ≤ shortest t
     → calling s (record { piece = []; range = range; lent = t }) ≡ after s.image t (record { reading = s.reading; answer = s.reading.answer })
 unfolding takes takes_on
 empty-call s range t e h =
@@ -101,7 +101,7 @@ module _ (l : List ℕ) (range : ℕ) (t : Tables) where
   unfolding judged_of
   wants w = rw (w.sound_words, lt-ltb _ _ w.short) refl
 
-  wanting-by : (b d : Bool) → ltb (first_spoilt l) card_words ≡ b → ltb (length l) image_bytes ≡ d → (judged_of l range t).answer.more ≡ true → Wanting l
+  wanting-by : (b d : Bool) → ltb (first_spoilt l) card_words ≡ b → ltb (length l) image_bytes ≡ d → (is_none (judged_of l range t).answer) ≡ true → Wanting l
   unfolding judged_of
   wanting-by true d e f m = absurd (true≢false (sym (rw e at m)))
   wanting-by false false e f m = absurd (true≢false (sym (rw (e, f) at m)))
@@ -110,11 +110,11 @@ module _ (l : List ℕ) (range : ℕ) (t : Tables) where
     short = ltb-true (length l) image_bytes f;
   }
 
-  pub wanting : (judged_of l range t).answer.more ≡ true → Wanting l
+  pub wanting : (is_none (judged_of l range t).answer) ≡ true → Wanting l
   wanting m = wanting-by (ltb (first_spoilt l) card_words) (ltb (length l) image_bytes) refl refl m
 
 module _ (lent l : List ℕ) (room : image_bytes ≤ length lent) (range : ℕ) (t : Tables) (x : List ℕ) where
-  still-by : (b d : Bool) → ltb (first_spoilt l) card_words ≡ b → ltb (length l) image_bytes ≡ d → (judged_of l range t).answer.more ≡ false → state_of lent (l ++ x) ≡ state_of lent l
+  still-by : (b d : Bool) → ltb (first_spoilt l) card_words ≡ b → ltb (length l) image_bytes ≡ d → (is_none (judged_of l range t).answer) ≡ false → state_of lent (l ++ x) ≡ state_of lent l
   unfolding judged_of state_of kept_of
   still-by true d e f m = sym (more-mean lent l x room) ∙ after-damage x (state_of lent l) e
   still-by false true e f m = absurd (true≢false (rw (e, f) at m))
@@ -122,15 +122,15 @@ module _ (lent l : List ℕ) (room : image_bytes ≤ length lent) (range : ℕ) 
       sym (more-mean lent l x room)
       ∙ past-card x (state_of lent l) e (le-leb image_bytes (kept_of l) (let a = ltb-false (first_spoilt l) card_words e in let b = ltb-false (length l) image_bytes f in omega arith))
 
-  pub still : (judged_of l range t).answer.more ≡ false → state_of lent (l ++ x) ≡ state_of lent l
+  pub still : (is_none (judged_of l range t).answer) ≡ false → state_of lent (l ++ x) ≡ state_of lent l
   still m = still-by (ltb (first_spoilt l) card_words) (ltb (length l) image_bytes) refl refl m
 
 -- ---- a piece that is taken
 
 module _ (lent : List ℕ) (card : length lent ≡ image_bytes) (l : List ℕ) (w : Wanting l) (c : Call) where
-  same-state : held (state_of lent l).image (record { count = kept_of l; damaged = card_words }) ≡ state_of lent l
+  same-state : held (state_of lent l).image (kept_of l) card_words ≡ state_of lent l
   unfolding state_of
-  same-state = ap (λ (d : ℕ). held (take (kept_of l) l ++ drop (kept_of l) lent) (record { count = kept_of l; damaged = d })) (sym w.sound_words)
+  same-state = ap (λ (d : ℕ). held (take (kept_of l) l ++ drop (kept_of l) lent) (kept_of l) d) (sym w.sound_words)
 
   by_state : answering (state_of lent (l ++ c.piece)) c.range c.lent ≡ answered lent (l ++ c.piece) c.range c.lent
   unfolding state_of
@@ -175,17 +175,17 @@ unfolding finishes
 finished-early lent l w = rw (all-kept l w, lt-ltb _ _ w.short) refl
 
 -- `finished` after the end changes nothing
-pub finished-late : (r : Reading) → r.answer.more ≡ false → finishes r ≡ r
+pub finished-late : (r : Reading) → is_none r.answer ≡ false → finishes r ≡ r
 unfolding finishes
 finished-late r e =
     ap (λ (b : Bool). pick b (pick (ltb r.count image_bytes) (record { count = r.count; answer = refused (ShortImage r.count) }) r) r) e
 
 -- no call changes the state of a reading that has ended
-ended-leaves : (s : State) (k : Event) → s.reading.answer.more ≡ false → leaves s k ≡ s
+ended-leaves : (s : State) (k : Event) → is_none s.reading.answer ≡ false → leaves s k ≡ s
 ended-leaves s (took c) e = ap (λ (a : After). record { image = a.image; reading = a.taken.reading }) (ended-call s c e)
 ended-leaves s finished e = ap (λ (r : Reading). record { image = s.image; reading = r }) (finished-late s.reading e)
 
-ended-calls : (calls : List Event) (s : State) → s.reading.answer.more ≡ false → after_calls s calls ≡ s
+ended-calls : (calls : List Event) (s : State) → is_none s.reading.answer ≡ false → after_calls s calls ≡ s
 ended-calls [] s e = refl
 ended-calls (c ∷ calls) s e = ap (λ (k : State). after_calls k calls) (ended-leaves s c e) ∙ ended-calls calls s e
 
@@ -199,13 +199,13 @@ module _ (lent : List ℕ) (card : length lent ≡ image_bytes) where
       ap (λ (a : After). record { image = a.image; reading = a.taken.reading }) (taken-call lent card l w c (ltb-false (shortest c.lent) frame_pixels e))
 
   -- bytes that come after the end of a reading do not change its state
-  on-still : (m x : List ℕ) (range : ℕ) (t : Tables) → (judged_of m range t).answer.more ≡ false → (a : Answer) → state_for lent m a ≡ state_for lent (m ++ x) a
+  on-still : (m x : List ℕ) (range : ℕ) (t : Tables) → (is_none (judged_of m range t).answer) ≡ false → (a : Answer) → state_for lent m a ≡ state_for lent (m ++ x) a
   unfolding state_of
   on-still m x range t e a =
-      ap (λ (h : Held). record { image = h.image; reading = record { count = h.kept.count; answer = a } }) (sym (still lent m (omega arith) range t x e))
+      ap (λ (h : Held). record { image = h.image; reading = record { count = h.count; answer = a } }) (sym (still lent m (omega arith) range t x e))
 
   goes_on : (calls : List Event) (m : List ℕ) → (Wanting m → after_calls (state_for lent m more) calls ≡ state_for lent (m ++ taken_of calls) (heard m calls))
-      → (range : ℕ) (t : Tables) (b : Bool) → (judged_of m range t).answer.more ≡ b
+      → (range : ℕ) (t : Tables) (b : Bool) → (is_none (judged_of m range t).answer) ≡ b
       → after_calls (state_for lent m (judged_of m range t).answer) calls ≡ state_for lent (m ++ taken_of calls) (pick b (heard m calls) (judged_of m range t).answer)
   goes_on calls m rest range t true e =
       let w = wanting m range t e in
@@ -223,7 +223,7 @@ module _ (lent : List ℕ) (card : length lent ≡ image_bytes) where
   calls-from (took c ∷ calls) l w =
       let m = l ++ brings c in
       ap (λ (k : State). after_calls k calls) (one-call l w c (ltb (shortest c.lent) frame_pixels) refl)
-      ∙ goes_on calls m (calls-from calls m) c.range c.lent (judged_of m c.range c.lent).answer.more refl
+      ∙ goes_on calls m (calls-from calls m) c.range c.lent (is_none (judged_of m c.range c.lent).answer) refl
       ∙ ap (λ (b : List ℕ). state_for lent b (heard l (took c ∷ calls))) (append_assoc l (brings c) (taken_of calls))
 
   at-start : begun lent ≡ state_for lent [] more

@@ -16,7 +16,7 @@ use Rattle.reader.proofs.Local.{damaged-more}
 
 -- the state with the first n bytes of l kept at the start of the caller's array, and the damaged word d
 abbrev pub stands : List ℕ → List ℕ → ℕ → ℕ → Held
-stands lent l n d = held (take n l ++ drop n lent) (record { count = n; damaged = d })
+stands lent l n d = held (take n l ++ drop n lent) n d
 
 -- the two cases: no word of the bytes l is damaged; or w is the first damaged word, and the bytes up to it are kept
 pub data Says (lent l : List ℕ) (h : Held) : Type 0 where
@@ -49,11 +49,11 @@ module _ (lent l : List ℕ) (byte : ℕ) (room : image_bytes ≤ length lent) w
       stored =
           rw (take_all (length l) l (omega arith), one-longer, add-one, append_assoc l (byte ∷ []), drop-cons lent (length l) 0 (omega arith)) (set-append_seam l _ _ byte)
 
-      all-kept : (n d : ℕ) → n ≡ length longer → held (longer ++ drop (length longer) lent) (record { count = length l + 1; damaged = d }) ≡ stands lent longer n d
+      all-kept : (n d : ℕ) → n ≡ length longer → held (longer ++ drop (length longer) lent) (length l + 1) d ≡ stands lent longer n d
       all-kept n d e = rw (e, take_all (length longer) longer (omega arith), one-longer) refl
 
       abbrev next : Held
-      next = held (longer ++ drop (length longer) lent) (record { count = length l + 1; damaged = completes (longer ++ drop (length longer) lent) (length l) })
+      next = held (longer ++ drop (length longer) lent) (length l + 1) (completes (longer ++ drop (length longer) lent) (length l))
 
       same : length l % 2 ≡ 1 → damaged_at (longer ++ drop (length longer) lent) (length l / 2) ≡ damaged_at longer (length l / 2)
       same o = damaged-more longer (drop (length longer) lent) (length l / 2) (let m = one-longer in omega arith)

@@ -8,18 +8,19 @@ use lib.Dec.{ltb}
 use lib.ListN.{length, take, drop, length-append, take-append-drop}
 use lib.Seq.{length-take-le}
 use borrow.Author.Tests.{lt-ltb, le-ltb, ltb-true}
+use Rattle.std.specs.Prelude.{Result, Err, is_none, IsSomeAnd}
 use Rattle.lists.specs.Pick.{pick}
 use Rattle.lists.proofs.First.{first-same}
+use Rattle.refusal.specs.declared.Refusal.{Refusal}
 use Rattle.refusal.specs.declared.Refusal.TheVariants.{DamagedWord}
-use Rattle.refusal.specs.declared.Verdict.TheVariants.{Refused}
 use Rattle.refusal.specs.Order.{first_of}
 use Rattle.util.specs.Words.{word_at}
 use Rattle.map.specs.Map.{card_words, image_bytes, frame_pixels}
 use Rattle.card.specs.Card.{damaged_at, first_damaged}
+use Rattle.eeprom.specs.declared.Loaded.{Loaded}
 use Rattle.eeprom.specs.Load.{Tables, shortest, load_tests, load_verdict, Loads}
-use Rattle.reader.specs.declared.Answer.{Answer}
 use Rattle.reader.specs.Bytes.{Held, spoilt_at, first_spoilt, state_of}
-use Rattle.reader.specs.Calls.{loaded_of, lent_after, ends, Judged, judged, After, Call, Event, took, State, calling, after_calls, begun, brings, taken_of, judged_of, heard, said_by}
+use Rattle.reader.specs.Calls.{loaded_of, lent_after, Answer, ends, Judged, judged, After, Call, Event, took, State, calling, after_calls, begun, brings, taken_of, judged_of, heard, said_by}
 use Rattle.reader.specs.Laws.{bytes_of}
 use Rattle.reader.proofs.Loading.{loads}
 use Rattle.reader.proofs.Local.{word_more, damaged-more}
@@ -52,7 +53,7 @@ module _ (l : List ℕ) (long : image_bytes ≤ length l) where
       first-same (damaged_at first) (spoilt_at l) 0 card_words (λ w h. first-damaged w (omega arith) ∙ sym (rw (lt-ltb (w * 2 + 1) (length l) (omega arith)) refl))
 
   module _ (range : ℕ) (t : Tables) (wide : frame_pixels ≤ shortest t) where
-    refusal : first_spoilt l < card_words → load_verdict first range t ≡ Refused (DamagedWord (first_spoilt l) (word_at l (first_spoilt l)))
+    refusal : first_spoilt l < card_words → load_verdict first range t ≡ Err (DamagedWord (first_spoilt l) (word_at l (first_spoilt l)))
     unfolding load_tests first_of
     refusal d =
         rw (le-ltb (length first) image_bytes (let e = first-length in omega arith), le-ltb (shortest t) frame_pixels wide, same_first, lt-ltb (first_spoilt l) card_words d, first_word (first_spoilt l) d) refl
@@ -89,20 +90,20 @@ module _ (lent : List ℕ) (l x : List ℕ) where
       rw (b, lt-ltb w card_words low) refl
 
 module _ (l : List ℕ) (range : ℕ) (t : Tables) (short : length l < image_bytes) where
-  damaged-by : (b : Bool) → ltb (first_spoilt l) card_words ≡ b → (judged_of l range t).answer.more ≡ false → ltb (first_spoilt l) card_words ≡ true
+  damaged-by : (b : Bool) → ltb (first_spoilt l) card_words ≡ b → (is_none (judged_of l range t).answer) ≡ false → ltb (first_spoilt l) card_words ≡ true
   unfolding judged_of
   damaged-by true e m = e
   damaged-by false e m = absurd (true≢false (rw (e, lt-ltb (length l) image_bytes short) at m))
 
   -- only a damaged word ends a reading before the card's last byte
-  damaged : (judged_of l range t).answer.more ≡ false → ltb (first_spoilt l) card_words ≡ true
+  damaged : (is_none (judged_of l range t).answer) ≡ false → ltb (first_spoilt l) card_words ≡ true
   damaged m = damaged-by (ltb (first_spoilt l) card_words) refl m
 
 module _ (lent : List ℕ) (card : length lent ≡ image_bytes) where
   -- before the card's last byte the answer is determined by the bytes, whatever the cuts, ranges and tables
   short-by : (calls : List Event) (m : List ℕ) (range : ℕ) (t : Tables) → length (m ++ taken_of calls) < image_bytes
       → (Wanting m → heard m calls ≡ (judged_of (m ++ taken_of calls) range t).answer)
-      → (s : ℕ) (u : Tables) (b : Bool) → (judged_of m s u).answer.more ≡ b → pick b (heard m calls) (judged_of m s u).answer ≡ (judged_of (m ++ taken_of calls) range t).answer
+      → (s : ℕ) (u : Tables) (b : Bool) → (is_none (judged_of m s u).answer) ≡ b → pick b (heard m calls) (judged_of m s u).answer ≡ (judged_of (m ++ taken_of calls) range t).answer
   short-by calls m range t h rest s u true e = rest (wanting m s u e)
   short-by calls m range t h rest s u false e =
       damage-stays lent m (taken_of calls) (state_of lent m) (says lent m (omega arith)) (damaged m s u (let n = length-append m (taken_of calls) in omega arith) e) s range u t
@@ -114,7 +115,7 @@ module _ (lent : List ℕ) (card : length lent ≡ image_bytes) where
       let m = l ++ brings c in
       let a = append_assoc l (brings c) (bytes_of calls) in
       let k : length (m ++ bytes_of calls) < image_bytes = rw a h in
-      short-by (map took calls) m range t k (λ v. short-from calls m range t v k) c.range c.lent (judged_of m c.range c.lent).answer.more refl
+      short-by (map took calls) m range t k (λ v. short-from calls m range t v k) c.range c.lent (is_none (judged_of m c.range c.lent).answer) refl
       ∙ ap (λ (b : List ℕ). (judged_of b range t).answer) a
 
   pub heard-short : (calls : List Call) (range : ℕ) (t : Tables) → length (bytes_of calls) < image_bytes → heard [] (map took calls) ≡ (judged_of (bytes_of calls) range t).answer
@@ -134,7 +135,7 @@ module _ (lent : List ℕ) (card : length lent ≡ image_bytes) where
     so_far = ap (λ (a : Answer). state_for lent (bytes_of calls) a) (heard-short calls c.range c.lent before)
 
     -- its answer and tables are those determined by all bytes; also if it repeats the refusal of a damaged word
-    last-by : (b : Bool) → by.answer.more ≡ b → ((calling (state_for lent (bytes_of calls) by.answer) c).taken.answer ≡ (judged_of all c.range c.lent).answer)
+    last-by : (b : Bool) → (is_none by.answer) ≡ b → ((calling (state_for lent (bytes_of calls) by.answer) c).taken.answer ≡ (judged_of all c.range c.lent).answer)
         × ((calling (state_for lent (bytes_of calls) by.answer) c).lent ≡ (judged_of all c.range c.lent).lent)
     last-by true e =
         let w = wanting (bytes_of calls) c.range c.lent e in
@@ -149,12 +150,12 @@ module _ (lent : List ℕ) (card : length lent ≡ image_bytes) where
         )
 
     -- they meet the contract of a load of the card: verdict, record and tables
-    pub whole-card : ((calling (after_calls (begun lent) (map took calls)) c).taken.answer.more ≡ false)
-        × Loads (take image_bytes all) c.range c.lent (calling (after_calls (begun lent) (map took calls)) c).lent (calling (after_calls (begun lent) (map took calls)) c).taken.answer.loaded
+    pub whole-card : IsSomeAnd (calling (after_calls (begun lent) (map took calls)) c).taken.answer
+        (λ (r : Result Loaded Refusal). Loads (take image_bytes all) c.range c.lent (calling (after_calls (begun lent) (map took calls)) c).lent r)
     whole-card =
-        let a = last-by by.answer.more refl in
+        let a = last-by (is_none by.answer) refl in
         let w = whole all long c.range c.lent wide in
         let s = calls-mean lent card (map took calls) ∙ so_far in
         let e = ap (λ (k : State). (calling k c).taken.answer) s ∙ a.0 ∙ ap (λ (j : Judged). j.answer) w in
         let f = ap (λ (k : State). (calling k c).lent) s ∙ a.1 ∙ ap (λ (j : Judged). j.lent) w in
-        (ap (λ (x : Answer). x.more) e, rw (e, f) (loads (take image_bytes all) c.range c.lent))
+        rw (e, f) (loads (take image_bytes all) c.range c.lent)

@@ -1,8 +1,11 @@
 -- Document 02, request 5: the effect of one byte and of a piece on the bytes kept, and the state that the bytes so far determine. Assumes nothing.
-use Rattle.std.specs.Prelude.{ℕ, ◌+◌, ◌*◌, ◌/◌, ◌%◌, min, Bool, false, eqb, leb, ltb, length, set, take, drop}
+use Rattle.std.specs.Prelude.{ℕ, ◌+◌, ◌*◌, ◌/◌, ◌%◌, ◌≡◌, min, Bool, false, eqb, leb, ltb, length, set, take, drop, ⊤, Result, Ok, Err}
 use mathlib.Core.List.{List, ◌++◌, foldl}
 use Rattle.lists.specs.Pick.{pick}
 use Rattle.lists.specs.First.{first_from}
+use Rattle.refusal.specs.declared.Refusal.{Refusal}
+use Rattle.refusal.specs.declared.Refusal.TheVariants.{DamagedWord}
+use Rattle.util.specs.Words.{word_at}
 use Rattle.map.specs.Map.{card_words, image_bytes}
 use Rattle.card.specs.Card.{damaged_at}
 use Rattle.reader.specs.declared.Kept.{Kept}
@@ -10,11 +13,22 @@ use Rattle.reader.specs.declared.Kept.{Kept}
 -- the caller's array, the number of bytes kept in it, and the damaged word, or 832 if there is none
 pub record Held : Type 0 where
   pub image : List ℕ
-  pub kept : Kept
+  pub count : ℕ
+  pub damaged : ℕ
 
--- an array and the bytes kept in it as `Held`
-abbrev pub held : List ℕ → Kept → Held
-held image kept = record { image = image; kept = kept }
+-- an array, the number of bytes kept in it and the damaged word as `Held`
+abbrev pub held : List ℕ → ℕ → ℕ → Held
+held image count damaged = record { image = image; count = count; damaged = damaged }
+
+-- the refusal of the damaged word, if there is one
+unfoldable pub verdict_on : Held → Result ⊤ Refusal
+verdict_on h = pick (ltb h.damaged card_words) (Err (DamagedWord h.damaged (word_at h.image h.damaged))) (Ok tt)
+
+-- an array and what a call returns of the bytes kept in it
+pub record Keeps (image : List ℕ) (kept : Kept) (h : Held) : Type 0 where
+  pub image_is : image ≡ h.image
+  pub count : kept.count ≡ h.count
+  pub verdict : kept.verdict ≡ verdict_on h
 
 -- ---- byte by byte
 
@@ -26,14 +40,14 @@ completes image byte =
 
 -- the effect of a byte that is stored
 abbrev pub taking : List ℕ → ℕ → ℕ → Held
-taking image count byte = held (set image count byte) (record { count = count + 1; damaged = completes (set image count byte) count })
+taking image count byte = held (set image count byte) (count + 1) (completes (set image count byte) count)
 
 -- the effect of a byte: it is stored, unless there is a damaged word or all 1,664 bytes are there
 unfoldable pub one_more : Held → ℕ → Held
 one_more h byte =
-    pick (ltb h.kept.damaged card_words) h
-    (pick (leb image_bytes h.kept.count) h
-    (taking h.image h.kept.count byte))
+    pick (ltb h.damaged card_words) h
+    (pick (leb image_bytes h.count) h
+    (taking h.image h.count byte))
 
 -- the effect of a piece
 abbrev pub fed : Held → List ℕ → Held
@@ -41,7 +55,7 @@ fed h piece = foldl one_more h piece
 
 -- the array before the first byte
 abbrev pub fresh : List ℕ → Held
-fresh lent = held lent (record { count = 0; damaged = card_words })
+fresh lent = held lent 0 card_words
 
 -- the effect of several pieces in turn
 abbrev pub fed_all : Held → List (List ℕ) → Held
@@ -64,4 +78,4 @@ kept_of bytes = min (first_spoilt bytes * 2 + 2) (min (length bytes) image_bytes
 -- the state after these bytes: those kept are at the start of the caller's array, the rest of it is as it was
 unfoldable pub state_of : List ℕ → List ℕ → Held
 state_of lent bytes =
-    held (take (kept_of bytes) bytes ++ drop (kept_of bytes) lent) (record { count = kept_of bytes; damaged = first_spoilt bytes })
+    held (take (kept_of bytes) bytes ++ drop (kept_of bytes) lent) (kept_of bytes) (first_spoilt bytes)

@@ -1,18 +1,15 @@
 -- Document 02, request 5: the effect of one call, and the state after any sequence of calls. Assumes nothing.
-use Rattle.std.specs.Prelude.{ℕ, true, false, eqb, ltb, length, take}
+use Rattle.std.specs.Prelude.{ℕ, eqb, ltb, length, take, Option, Some, None, is_none, Result, Err}
 use mathlib.Core.List.{List, [], ◌∷◌, ◌++◌, foldl}
 use Rattle.lists.specs.Pick.{pick}
 use Rattle.refusal.specs.declared.Refusal.{Refusal}
 use Rattle.refusal.specs.declared.Refusal.TheVariants.{ShortImage, ShortTable, DamagedWord}
-use Rattle.refusal.specs.declared.Verdict.TheVariants.{Pass, Refused}
 use Rattle.refusal.specs.Refusal.{unless}
 use Rattle.util.specs.Words.{word_at}
 use Rattle.map.specs.Map.{card_words, image_bytes, frame_pixels}
-use Rattle.card.specs.Card.{data_at, mending_of, no_mending}
-use Rattle.calibration.specs.Calibration.{calibration_of, no_calibration}
+use Rattle.card.specs.Card.{data_at}
 use Rattle.eeprom.specs.declared.Loaded.{Loaded}
-use Rattle.eeprom.specs.Load.{Tables, shortest, filled_tables, load_verdict}
-use Rattle.reader.specs.declared.Answer.{Answer}
+use Rattle.eeprom.specs.Load.{Tables, shortest, filled_tables, load_verdict, giving, loaded}
 use Rattle.reader.specs.declared.Reading.{Reading}
 use Rattle.reader.specs.declared.Taken.{Taken}
 use Rattle.reader.specs.Bytes.{Held, held, fed, first_spoilt, kept_of, state_of}
@@ -20,12 +17,8 @@ use Rattle.reader.specs.Bytes.{Held, held, fed, first_spoilt, kept_of, state_of}
 -- ---- the result of a load
 
 -- what a load of this image returns
-unfoldable pub loaded_of : List ℕ → ℕ → Tables → Loaded
-loaded_of image range t = record {
-  verdict = load_verdict image range t;
-  calibration = unless (load_verdict image range t) (calibration_of (data_at image) range) no_calibration;
-  mending = unless (load_verdict image range t) (mending_of image) no_mending;
-}
+unfoldable pub loaded_of : List ℕ → ℕ → Tables → Result Loaded Refusal
+loaded_of image range t = giving (load_verdict image range t) (loaded image range)
 
 -- the tables after a load of this image
 unfoldable pub lent_after : List ℕ → ℕ → Tables → Tables
@@ -33,17 +26,21 @@ lent_after image range t = unless (load_verdict image range t) (filled_tables (d
 
 -- ---- the answers
 
+-- an answer: none while more bytes are wanted
+abbrev pub Answer : Type 0
+Answer = Option (Result Loaded Refusal)
+
 -- more bytes are wanted
 abbrev pub more : Answer
-more = record { more = true; loaded = record { verdict = Pass; calibration = no_calibration; mending = no_mending } }
+more = None
 
 -- the reading has ended with this result of a load
-abbrev pub ends : Loaded → Answer
-ends loaded = record { more = false; loaded = loaded }
+abbrev pub ends : Result Loaded Refusal → Answer
+ends loaded = Some loaded
 
 -- the reading has ended with this refusal, as a refused load returns it
 abbrev pub refused : Refusal → Answer
-refused refusal = ends (record { verdict = Refused refusal; calibration = no_calibration; mending = no_mending })
+refused refusal = ends (Err refusal)
 
 -- ---- a call
 
@@ -63,8 +60,8 @@ judged answer t = record { answer = answer; lent = t }
 -- the answer for the bytes kept: a damaged word is refused, fewer than 1,664 want more, a whole card is loaded with this range into these tables
 unfoldable pub judges : Held → ℕ → Tables → Judged
 judges h range t =
-    pick (ltb h.kept.damaged card_words) (judged (refused (DamagedWord h.kept.damaged (word_at h.image h.kept.damaged))) t)
-    (pick (ltb h.kept.count image_bytes) (judged more t)
+    pick (ltb h.damaged card_words) (judged (refused (DamagedWord h.damaged (word_at h.image h.damaged))) t)
+    (pick (ltb h.count image_bytes) (judged more t)
     (judged (ends (loaded_of h.image range t)) (lent_after h.image range t)))
 
 -- the outcome of a call: the caller's array and tables afterwards, and what the call returns
@@ -81,25 +78,25 @@ after image t r = record { image = image; lent = t; taken = r }
 abbrev pub answering : Held → ℕ → Tables → After
 answering h range t =
     let j = judges h range t in
-    after h.image j.lent (record { reading = record { count = h.kept.count; answer = j.answer }; answer = j.answer })
+    after h.image j.lent (record { reading = record { count = h.count; answer = j.answer }; answer = j.answer })
 
 -- the outcome of a call in a reading that has not ended: short tables are refused, an empty piece changes nothing, any other piece is taken
 unfoldable pub takes_on : List ℕ → Reading → List ℕ → ℕ → Tables → After
 takes_on image reading piece range t =
     pick (ltb (shortest t) frame_pixels) (after image t (record { reading = reading; answer = refused ShortTable }))
     (pick (eqb (length piece) 0) (after image t (record { reading = reading; answer = reading.answer }))
-    (answering (fed (held image (record { count = reading.count; damaged = card_words })) piece) range t))
+    (answering (fed (held image reading.count card_words) piece) range t))
 
 -- the outcome of `take`: a reading that has ended repeats its answer and changes nothing
 unfoldable pub takes : List ℕ → Reading → List ℕ → ℕ → Tables → After
 takes image reading piece range t =
-    pick reading.answer.more (takes_on image reading piece range t)
+    pick (is_none reading.answer) (takes_on image reading piece range t)
     (after image t (record { reading = reading; answer = reading.answer }))
 
 -- the outcome of `finished`: a reading of fewer than 1,664 bytes that has not ended ends with refusal 1 and its number of bytes
 unfoldable pub finishes : Reading → Reading
 finishes reading =
-    pick reading.answer.more
+    pick (is_none reading.answer)
     (pick (ltb reading.count image_bytes) (record { count = reading.count; answer = refused (ShortImage reading.count) }) reading)
     reading
 
@@ -162,7 +159,7 @@ unfoldable pub heard : List ℕ → List Event → Answer
 heard bytes [] = more
 heard bytes (took c ∷ calls) =
     let here = (judged_of (bytes ++ brings c) c.range c.lent).answer in
-    pick here.more (heard (bytes ++ brings c) calls) here
+    pick (is_none here) (heard (bytes ++ brings c) calls) here
 heard bytes (finished ∷ calls) = refused (ShortImage (length bytes))
 
 -- the state after any calls, as the bytes that they bring determine it

@@ -3,8 +3,8 @@
 
 ghost use Rattle.std.specs.Prelude.{◌≡◌, ◌<◌};
 ghost use Rattle.eeprom.specs.Load.{tables};
-ghost use Rattle.reader.specs.Bytes.{held, taking, fed};
-ghost use Rattle.reader.specs.Calls.{start, more, refused, judged, judges, after, takes_on, takes, finishes};
+ghost use Rattle.reader.specs.Bytes.{Held, held, Keeps, taking, fed};
+ghost use Rattle.reader.specs.Calls.{start, judged, judges, after, takes_on, takes, finishes};
 
 use eeprom::Loaded;
 use map::{IMAGE_BYTES, PIXELS, WORDS};
@@ -14,15 +14,10 @@ use refusal::{Refusal, Verdict};
 // The caller's array, with the bytes so far at its start.
 pub type Image = [u8; IMAGE_BYTES];
 
-// The answer of a call: more bytes are wanted, or the result of a load, which is a refusal or the record of a complete card. While more bytes are
-// wanted, `loaded` has no refusal and a record of zeros.
-#[derive(Clone, Copy)]
-pub struct Answer {
-    pub more: bool,
-    pub loaded: Loaded,
-}
+// The answer of a call: nothing while more bytes are wanted, or the result of a load, which is a refusal or the record of a complete card.
+pub type Answer = Option<Result<Loaded, Refusal>>;
 
-// The state of a reading: the number of bytes kept, and its answer so far. The reading has ended when no more bytes are wanted.
+// The state of a reading: the number of bytes kept, and its answer so far. The reading has ended when there is an answer.
 #[derive(Clone, Copy)]
 pub struct Reading {
     pub count: usize,
@@ -37,43 +32,11 @@ pub struct Taken {
     pub answer: Answer,
 }
 
-// The number of bytes kept, and the damaged word that the last byte completed, or 832 if there is none.
+// The number of bytes kept, and the verdict on their words: the last byte may complete a damaged one.
 #[derive(Clone, Copy)]
 pub struct Kept {
     pub count: usize,
-    pub damaged: usize,
-}
-
-// The answer that more bytes are wanted.
-fn want_more() -> Answer
-    ensures { result ≡ more }
-{
-    let calibration = calibration::no_calibration();
-    let mending = card::no_mending();
-    Answer {
-        more: true,
-        loaded: Loaded {
-            verdict: Verdict::Pass,
-            calibration,
-            mending,
-        },
-    }
-}
-
-// The answer that refuses: the result of a refused load.
-fn refuse(refusal: Refusal) -> Answer
-    ensures { result ≡ refused refusal }
-{
-    let calibration = calibration::no_calibration();
-    let mending = card::no_mending();
-    Answer {
-        more: false,
-        loaded: Loaded {
-            verdict: Verdict::Refused(refusal),
-            calibration,
-            mending,
-        },
-    }
+    pub verdict: Verdict,
 }
 
 // The state of a reading before its first byte.
@@ -82,55 +45,54 @@ pub fn new() -> Reading
 {
     Reading {
         count: 0,
-        answer: want_more(),
+        answer: None,
     }
 }
 
 // Stores one byte after those kept, and checks the word that it completes, if any.
 fn one(image: &mut Image, count: usize, byte: u8) -> Kept
     requires { count < 1664 }
-    ensures { held image.new result ≡ taking image.old count byte }
+    ensures { Keeps image.new result (taking image.old count byte) }
 {
     image[count] = byte;
     let next = count + 1;
     if count % 2 == 0 {
         return Kept {
             count: next,
-            damaged: WORDS,
+            verdict: Ok(()),
         };
     }
     let word = count / 2;
     let read = card::read_word(image, word);
-    if read.damaged {
+    if read.is_none() {
+        let bits = util::word_at(image, word);
         return Kept {
             count: next,
-            damaged: word,
+            verdict: Err(Refusal::DamagedWord { word, bits }),
         };
     }
     Kept {
         count: next,
-        damaged: WORDS,
+        verdict: Ok(()),
     }
 }
 
 // Stores the bytes of a piece after those kept. No byte is stored after a damaged word, nor past the 1,664 bytes of a card.
 fn feed(image: &mut Image, count: usize, piece: &[u8]) -> Kept
-    ensures { held image.new result ≡ fed (held image.old (record { count = count; damaged = 832 })) piece.now }
+    ensures { Keeps image.new result (fed (held image.old count 832) piece.now) }
 {
     let mut kept = Kept {
         count,
-        damaged: WORDS,
+        verdict: Ok(()),
     };
-    let mut i = 0;
-    while i < piece.len() {
-        if kept.damaged < WORDS {
+    for byte in piece {
+        if kept.verdict.is_err() {
             return kept;
         }
         if IMAGE_BYTES <= kept.count {
             return kept;
         }
-        kept = one(image, kept.count, piece[i]);
-        i += 1;
+        kept = one(image, kept.count, *byte);
     }
     kept
 }
@@ -146,22 +108,17 @@ fn judge(
     k_v: &mut [f32],
     k_ta: &mut [f32],
 ) -> Answer
-    ensures { judged result (tables offsets0.new offsets1.new alpha.new k_v.new k_ta.new)
-        ≡ judges (held image.now kept) basic_range (tables offsets0.old offsets1.old alpha.old k_v.old k_ta.old) }
+    ensures { (h : Held) → Keeps image.now kept h → judged result (tables offsets0.new offsets1.new alpha.new k_v.new k_ta.new)
+        ≡ judges h basic_range (tables offsets0.old offsets1.old alpha.old k_v.old k_ta.old) }
 {
-    let word = kept.damaged;
-    if word < WORDS {
-        let bits = util::word_at(image, word);
-        return refuse(Refusal::DamagedWord { word, bits });
+    if let Err(refusal) = kept.verdict {
+        return Some(Err(refusal));
     }
     if kept.count < IMAGE_BYTES {
-        return want_more();
+        return None;
     }
     let loaded = eeprom::load(image, basic_range, offsets0, offsets1, alpha, k_v, k_ta);
-    Answer {
-        more: false,
-        loaded,
-    }
+    Some(loaded)
 }
 
 // Takes a piece in a reading that has not ended. Short tables are refused and the piece is not taken; an empty piece changes nothing.
@@ -187,18 +144,19 @@ fn take_on(
         k_ta.len(),
     );
     if table < PIXELS {
-        let answer = refuse(Refusal::ShortTable);
-        return Taken { reading, answer };
-    }
-    if piece.len() == 0 {
-        let so_far = reading.answer;
         return Taken {
             reading,
-            answer: so_far,
+            answer: Some(Err(Refusal::ShortTable)),
+        };
+    }
+    if piece.len() == 0 {
+        return Taken {
+            reading,
+            answer: reading.answer,
         };
     }
     let kept = feed(image, reading.count, piece);
-    let said = judge(
+    let answer = judge(
         image,
         kept,
         basic_range,
@@ -211,9 +169,9 @@ fn take_on(
     Taken {
         reading: Reading {
             count: kept.count,
-            answer: said,
+            answer,
         },
-        answer: said,
+        answer,
     }
 }
 
@@ -233,8 +191,7 @@ pub fn take(
     ensures { after image.new (tables offsets0.new offsets1.new alpha.new k_v.new k_ta.new) result
         ≡ takes image.old reading piece.now basic_range (tables offsets0.old offsets1.old alpha.old k_v.old k_ta.old) }
 {
-    let answer = reading.answer;
-    if answer.more {
+    if reading.answer.is_none() {
         return take_on(
             image,
             reading,
@@ -247,7 +204,10 @@ pub fn take(
             k_ta,
         );
     }
-    Taken { reading, answer }
+    Taken {
+        reading,
+        answer: reading.answer,
+    }
 }
 
 // Tells a reading that no more bytes come: if it has not ended, it ends with refusal 1 and the number of bytes so far. That number is below 1,664 in
@@ -255,13 +215,13 @@ pub fn take(
 pub fn finished(reading: Reading) -> Reading
     ensures { result ≡ finishes reading }
 {
-    let told = reading.answer;
+    let answer = reading.answer;
     let count = reading.count;
-    if told.more {
+    if answer.is_none() {
         if count < IMAGE_BYTES {
             return Reading {
                 count,
-                answer: refuse(Refusal::ShortImage { length: count }),
+                answer: Some(Err(Refusal::ShortImage { length: count })),
             };
         }
     }

@@ -1,12 +1,7 @@
-use mathlib.Core.Path.{◌≡◌}
-use Prim.Native.Nat.{◌≤◌, ◌-◌}
-use lib.ListN.{length, drop}
-use Rattle.reader.specs.Bytes.{held, fed}
+use Rattle.std.proofs.Common.{take}
+use Rattle.map.specs.Map.{card_words}
+use Rattle.reader.specs.Bytes.{held, Keeps, fed}
 use Rattle.reader.proofs.feed.Given as goal
 
-abbrev pub invariant-loop-i : goal.invariant-loop-i
-invariant-loop-i l =
-    (l.i ≤ length l.piece) × (fed (held l.image l.kept) (drop l.i l.piece) ≡ fed (held l.initial.image l.initial.kept) l.piece)
-
-abbrev pub decreases-loop-i : goal.decreases-loop-i
-decreases-loop-i l = length l.piece - l.i
+abbrev pub invariant-loop-byte : goal.invariant-loop-byte
+invariant-loop-byte l = Keeps l.image l.kept (fed (held l.initial.image l.count card_words) (take l.byte-index l.piece))
