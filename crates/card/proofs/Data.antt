@@ -49,7 +49,7 @@ module _ (image : List ℕ) (word : ℕ) where
   pub was-damaged : ◌≡◌ {A = Option Read} None (read_of image word) → damaged_at image word ≡ true
   was-damaged e = none_of (damaged_at image word) (record { value = data_at image word; stray = stray_at image word }) e
 
--- `readAt` of a checked word is its decoding; of any other word it is data 0
+-- `read_of` of a checked word is its decoding; of any other word it is data 0
 pub read-checked : (image : List ℕ) (word : ℕ) → checked word ≡ true → read_at image word ≡ decoded (word_at image word)
 unfolding read_at
 read-checked image word e = rw e refl
@@ -62,7 +62,7 @@ said_of : (s : Said) → not (is_said s) ≡ false → s ≡ says (said_data s)
 said_of (says d) e = refl
 said_of damaged e = absurd (true≢false e)
 
--- `readAt` of a word that is not damaged has its data
+-- `read_of` of a word that is not damaged has its data
 pub says-data : (image : List ℕ) (word : ℕ) → damaged_at image word ≡ false → read_at image word ≡ says (data_at image word)
 unfolding damaged_at data_at
 says-data image word e = said_of (read_at image word) e

@@ -1,4 +1,4 @@
--- `clamped`, by the tests that the code makes. Assumes nothing.
+-- `kept`, by the tests that the code makes. Assumes nothing.
 use Prim.Native.Nat.{ℕ, ◌<◌, min}
 use mathlib.Core.Path.{◌≡◌, ap}
 use mathlib.Core.Bool.{true, false}

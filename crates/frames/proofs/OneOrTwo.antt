@@ -1,4 +1,4 @@
--- One pass and two calls give the same picture: `one-or-two` proves specs/OneOrTwo. Assumes nothing.
+-- One pass and two calls give the same picture: `one_or_two` proves specs/OneOrTwo. Assumes nothing.
 use Prim.Native.Nat.{ℕ, min, ◌*◌, ◌≤◌, zero-le}
 use native.Mathlib.Nat.{le_refl}
 use mathlib.Core.Path.{◌≡◌, refl, sym, ap, ap₂, ◌∙◌}

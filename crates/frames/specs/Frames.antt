@@ -134,7 +134,7 @@ pub record PassCall : Type 0 where
   pub ranges : Ranges
   pub alpha : List Float
 
--- the arguments of the infrared-to-temperature step, with ambient temperature tA
+-- the arguments of the infrared-to-temperature step, with ambient temperature t_a
 abbrev pub onward_at : PassCall → Float → ToCall
 onward_at f t_a = record {
   size = f.ir.size;

@@ -28,7 +28,7 @@ earlier (Err x) (Err y) = pick (leb (standing x) (standing y)) (Err x) (Err y)
 
 -- ---- the two calls
 
--- the second of the two calls: with the pass's own tables, mask and settings, and the ambient temperature tA
+-- the second of the two calls: with the pass's own tables, mask and settings, and the ambient temperature t_a
 abbrev pub second : PassCall → Float → ToCall
 second f t_a = onward_at f t_a
 

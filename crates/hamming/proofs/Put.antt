@@ -13,7 +13,7 @@ use Rattle.hamming.proofs.Linear.{parity-lt}
 pub put : (k w p : ℕ) → 1 + k ≤ 16 → w < 2 ^ k → p < 2 → bit_or w (p * 2 ^ k % 65536) ≡ w + p * 2 ^ k
 put k w p hk hw hp = ap (bit_or w) (shl_exact 1 k 16 hp hk) ∙ or_shifted_r p k w hw ∙ add_comm (p * 2 ^ k) w
 
--- the code's check bits P0 to P3 give `withFour`
+-- the code's check bits P0 to P3 give `with_four`
 pub four : (d : ℕ) → d < 2048
     → bit_or (bit_or (bit_or (bit_or d (parity 0x055B d * 2048 % 65536)) (parity 0x066D d * 4096 % 65536)) (parity 0x078E d * 8192 % 65536)) (parity 0x07F0 d * 16384 % 65536)
     ≡ with_four d

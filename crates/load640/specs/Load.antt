@@ -1,4 +1,4 @@
--- The MLX90640's paper, "When the gate says stop": what stops a load, lowest number first, and what a load leaves. `wordAt image` are a card's words.
+-- The MLX90640's paper, "When the gate says stop": what stops a load, lowest number first, and what a load leaves. `word_at image` are a card's words.
 -- Assumes nothing.
 use Rattle.std.specs.Prelude.{ℕ, min, ◌≡◌, List, [], ◌∷◌, leb, ltb, ℤ, length, Float, ⊤, Result}
 use Rattle.lists.specs.Written.{filled}

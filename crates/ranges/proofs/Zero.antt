@@ -1,4 +1,4 @@
--- If no growth below the basic range is a zero, `zeroFactor` finds no range. Assumes nothing.
+-- If no growth below the basic range is a zero, `zero_factor` finds no range. Assumes nothing.
 use Rattle.std.proofs.Common.{◌≡◌, ℕ, zero, suc, ◌<◌, Bool, false, List, ℤ, refl, arith}
 use lib.Ieee.{Float}
 use Rattle.lists.specs.Last.{last_below}

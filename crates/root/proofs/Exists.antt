@@ -1,4 +1,4 @@
--- Every positive finite number has a nearest square root, and `rootPattern` gives its bits. Assumes nothing.
+-- Every positive finite number has a nearest square root, and `root_pattern` gives its bits. Assumes nothing.
 use Rattle.std.proofs.Common.{◌≡◌, ℕ, zero, suc, ◌+◌, ◌-◌, ◌*◌, ◌/◌, ◌%◌, ◌^◌, ◌<◌, ◌≤◌, refl, subst, lt_of_not-le, arith}
 use native.Mathlib.Decide.{dec_le}
 use lib.Count.{count_leading_zeros}

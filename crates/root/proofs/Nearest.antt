@@ -1,4 +1,4 @@
--- `squareRoot` is the nearest root, it is the only one, and the fourth root is two of them. Assumes nothing.
+-- `square_root` is the nearest root, it is the only one, and the fourth root is two of them. Assumes nothing.
 use Rattle.std.proofs.Common.{◌≡◌, ℕ, ◌+◌, ◌-◌, ◌*◌, ◌^◌, ◌<◌, ◌≤◌, false, T, sym, ap, ◌∙◌, subst, lt_trans, lt_of_lt_of_le, lt_of_le_of_lt, lt_irrefl, le_antisymm, lt_of_not-le, mul-one, arith, pow_pos}
 use native.Mathlib.Nat.{pow-succ', pow-zero}
 use native.Mathlib.Decide.{dec_le}
@@ -65,7 +65,7 @@ module _ (x : Float) (held : T (fits binary32 x)) (above_zero : T (positive x)) 
   root-bits : square_root x ≡ of_bits binary32 (root_pattern b)
   root-bits = ap square_root (sym (of_bits-to_bits binary32 x held)) ∙ square-root-bits b finite-bits
 
-  -- `squareRoot` is the nearest root
+  -- `square_root` is the nearest root
   pub nearest : NearestRoot x (square_root x)
   nearest =
       subst (λ (y : Float). NearestRoot y (square_root x)) (of_bits-to_bits binary32 x held)

@@ -1,4 +1,4 @@
--- The nearest root grows with its argument, and `rootPattern` finds it, so there is only one. Assumes nothing.
+-- The nearest root grows with its argument, and `root_pattern` finds it, so there is only one. Assumes nothing.
 use Rattle.std.proofs.Common.{◌≡◌, ℕ, zero, suc, ◌+◌, ◌-◌, ◌*◌, ◌^◌, ◌<◌, ◌≤◌, Bool, true, false, sym, ap, ◌∙◌, subst, le_trans, lt_of_lt_of_le, le_of_suc-le-suc, lt_of_le_of_lt, le_of_lt, mul-le-mul_right, mul-le-mul_left, lt_of_not-le, not-le_of_lt, arith, le-ltb, lt-ltb}
 use native.Mathlib.Nat.{le_dest, pow-succ'}
 use native.Mathlib.Decide.{dec_le}
