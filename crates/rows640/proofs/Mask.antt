@@ -7,7 +7,8 @@ use native.Mathlib.Omega.{arith}
 use lib.Dec.{eqb}
 use Rattle.lists.specs.Pick.{pick}
 use Rattle.lists.specs.Written.{filled}
-use Rattle.refusal.specs.declared.Verdict.{Verdict}
+use Rattle.std.specs.Prelude.{⊤, Result}
+use Rattle.refusal.specs.declared.Refusal.{Refusal}
 use Rattle.refusal.specs.Refusal.{unless}
 use Rattle.mlx90640.specs.Pixels.{row, column}
 use Rattle.rows640.specs.declared.Pattern.{Pattern}
@@ -29,7 +30,7 @@ pub chess-readings : ChessReadings
 unfolding mask_at
 chess-readings = record { zero = (refl, refl, refl, refl); one = (refl, refl, refl, refl) }
 
-pub single : (subpage : ℕ) (p : Pattern) (d x y : List ℕ) (r q : Verdict) → Masks subpage p d x r → Masks subpage p d y q → (r ≡ q) × (x ≡ y)
+pub single : (subpage : ℕ) (p : Pattern) (d x y : List ℕ) (r q : Result ⊤ Refusal) → Masks subpage p d x r → Masks subpage p d y q → (r ≡ q) × (x ≡ y)
 single subpage p d x y r q m n =
     let e = m.verdict ∙ sym n.verdict in
-    (e, m.lent ∙ ap (λ (v : Verdict). unless v (filled (mask_at subpage p) pixel_count d) d) e ∙ sym n.lent)
+    (e, m.lent ∙ ap (λ (v : Result ⊤ Refusal). unless v (filled (mask_at subpage p) pixel_count d) d) e ∙ sym n.lent)

@@ -1,9 +1,9 @@
 -- The MLX90640's paper, "Which pixels": the subpage that a pixel is of, and the mask of a subpage. Assumes nothing.
-use Rattle.std.specs.Prelude.{ℕ, ◌+◌, ◌%◌, ◌≡◌, List, [], ◌∷◌, eqb, ltb, length}
+use Rattle.std.specs.Prelude.{ℕ, ◌+◌, ◌%◌, ◌≡◌, List, [], ◌∷◌, eqb, ltb, length, ⊤, Result}
 use Rattle.lists.specs.Pick.{pick}
 use Rattle.lists.specs.Written.{filled}
 use Rattle.refusal.specs.declared.Refusal.TheVariants.{ShortTable}
-use Rattle.refusal.specs.declared.Verdict.{Verdict}
+use Rattle.refusal.specs.declared.Refusal.{Refusal}
 use Rattle.refusal.specs.Refusal.{unless}
 use Rattle.refusal.specs.Order.{◌refuses◌, first_of}
 use Rattle.camera.specs.declared.Subpage.{Subpage}
@@ -30,11 +30,11 @@ mask_at subpage p k = pick (eqb (subpage_at p k) subpage) 1 0
 
 -- ---- the writer's promise
 
-abbrev pub mask_verdict : List ℕ → Verdict
+abbrev pub mask_verdict : List ℕ → Result ⊤ Refusal
 mask_verdict before = first_of (ltb (length before) pixel_count refuses ShortTable ∷ [])
 
 -- of the mask before and after, and the answer: the first 768 entries are those of the subpage, the others stay
-pub record Masks (subpage : ℕ) (p : Pattern) (before after : List ℕ) (r : Verdict) : Type 0 where
+pub record Masks (subpage : ℕ) (p : Pattern) (before after : List ℕ) (r : Result ⊤ Refusal) : Type 0 where
   pub verdict : r ≡ mask_verdict before
   pub lent : after ≡ unless r (filled (mask_at subpage p) pixel_count before) before
 

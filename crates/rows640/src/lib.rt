@@ -16,7 +16,7 @@ use refusal::{Refusal, Verdict};
 pub const TWO_ROWS: usize = 2 * WIDTH;
 
 // The access pattern: a subpage has the pixels of one colour of a chessboard, or every other row.
-#[derive(Clone, Copy)]
+#[derive(Clone, Copy, Debug, PartialEq, Eq)]
 pub enum Pattern {
     Chess,
     Interleave,
@@ -98,11 +98,11 @@ pub fn write_mask(subpage: Subpage, pattern: Pattern, mask: &mut [u8]) -> Verdic
     ensures { Masks (number_of subpage) pattern mask.old mask.new result }
 {
     if mask.len() < NUM_PIXELS {
-        return Verdict::Refused(Refusal::ShortTable);
+        return Err(Refusal::ShortTable);
     }
     let number = number_of(subpage);
     for pixel in 0..NUM_PIXELS {
         mask[pixel] = mask_at(number, pattern, pixel);
     }
-    Verdict::Pass
+    Ok(())
 }
