@@ -6,11 +6,14 @@
 #![tactic(auto)]
 
 use board_lines::{end_line, load_line};
+use console::Failure;
 use eeprom::Loaded;
 use map::{BASIC_RANGE, IMAGE_BYTES};
 use offsets::Offset;
+use refusal::Refusal;
+use std::io::Stdin;
 
-fn run(image: &[u8]) -> Loaded {
+fn load(image: &[u8]) -> Result<Loaded, Refusal> {
     let mut offsets0: [Offset; 192] = [0; 192];
     let mut offsets1: [Offset; 192] = [0; 192];
     let mut alpha = [0.0f32; 192];
@@ -28,17 +31,21 @@ fn run(image: &[u8]) -> Loaded {
 }
 
 // Writes the lines of an image.
-fn serve(image: &[u8]) {
-    let loaded = run(image);
-    console::went(load_line(loaded) && end_line(1), loaded.verdict);
+fn serve(image: &[u8]) -> Result<(), Failure> {
+    let loaded = load(image);
+    load_line(loaded)?;
+    end_line(1)?;
+    loaded?;
+    Ok(())
+}
+
+fn run(input: Stdin) -> Result<(), Failure> {
+    let mut buffer = io::buffer();
+    let n = io::read_full(console::STDIN, &mut buffer);
+    console::whole(input, n, IMAGE_BYTES)?;
+    serve(&buffer[..n])
 }
 
 fn main(rt: HostRuntime) {
-    let mut buffer = io::buffer();
-    let n = io::read_full(console::STDIN, &mut buffer);
-    if console::whole(rt.stdin(), n, IMAGE_BYTES) {
-        serve(&buffer[..n]);
-    } else {
-        console::failed_reading();
-    }
+    console::end(run(rt.stdin()));
 }

@@ -7,29 +7,37 @@
 #![tactic(auto)]
 
 use board_lines::{end_line, plain_load_line};
-use load640::{BASIC_RANGE, Loaded};
+use console::Failure;
+use load640::BASIC_RANGE;
 use map640::IMAGE_BYTES;
+use refusal::Verdict;
+use std::io::Stdin;
 
-fn run(image: &[u8]) -> Loaded {
+// Returns the verdict of loading an image.
+fn load(image: &[u8]) -> Verdict {
     let mut offsets = [0i32; 768];
     let mut alpha = [0.0f32; 768];
     let mut k_ta = [0.0f32; 768];
-    load640::load(image, BASIC_RANGE, &mut offsets, &mut alpha, &mut k_ta)
+    load640::load(image, BASIC_RANGE, &mut offsets, &mut alpha, &mut k_ta)?;
+    Ok(())
 }
 
 // Writes the lines of an image.
-fn serve(image: &[u8]) {
-    let loaded = run(image);
-    let verdict = loaded.verdict;
-    console::went(plain_load_line(verdict) && end_line(1), verdict);
+fn serve(image: &[u8]) -> Result<(), Failure> {
+    let verdict = load(image);
+    plain_load_line(verdict)?;
+    end_line(1)?;
+    verdict?;
+    Ok(())
+}
+
+fn run(input: Stdin) -> Result<(), Failure> {
+    let mut buffer = io::buffer();
+    let n = io::read_full(console::STDIN, &mut buffer);
+    console::whole(input, n, IMAGE_BYTES)?;
+    serve(&buffer[..n])
 }
 
 fn main(rt: HostRuntime) {
-    let mut buffer = io::buffer();
-    let n = io::read_full(console::STDIN, &mut buffer);
-    if console::whole(rt.stdin(), n, IMAGE_BYTES) {
-        serve(&buffer[..n]);
-    } else {
-        console::failed_reading();
-    }
+    console::end(run(rt.stdin()));
 }
