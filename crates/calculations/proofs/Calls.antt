@@ -5,6 +5,8 @@ use mathlib.Core.List.{List}
 use lib.IntN.{ℤ}
 use lib.ListN.{length, replicate}
 use lib.Ieee.{Float}
+use Rattle.std.specs.Prelude.{Result}
+use Rattle.refusal.specs.declared.Refusal.{Refusal}
 use Rattle.floats.specs.Constants.{plus_zero}
 use Rattle.roots.specs.Many.{side}
 use Rattle.calibration.specs.declared.Calibration.{Calibration}
@@ -37,7 +39,7 @@ call f compensation w k n = record {
 }
 
 pub makes : (c : Calibration) (f : Input) (compensation : Float) (w : Wanted) (o0 o1 : List ℤ) (alpha v t : List Float) (p m : List ℕ) {k : Constants} {n : ℕ} {o : List ℤ}
-    → k ≡ constants_of c → n ≡ min (min (length o0) (length o1)) (min (length v) (length t)) → o ≡ offsets_of o0 o1 f.subpage → {d d' : List ℕ} {r : Frame}
+    → k ≡ constants_of c → n ≡ min (min (length o0) (length o1)) (min (length v) (length t)) → o ≡ offsets_of o0 o1 f.subpage → {d d' : List ℕ} {r : Result Frame Refusal}
     → Makes w (any_pass (any_ir (call f compensation w k n) p o t v (replicate side plus_zero) m) (ranges_of c) alpha) d d' r
     → Makes w (pass_call c (ir_call c f compensation o0 o1 v t p m) alpha) d d' r
 makes c f compensation w o0 o1 alpha v t p m {k} {n} {o} e g h {d} {d'} {r} made =

@@ -1,5 +1,6 @@
 // The MLX90641's frame calls: pixels to infrared, infrared to temperature, both in one pass, and the second pass. Each call that takes pixels has a second
-// form, which takes a filter's average. All of them pass the record's numbers and the tables to the calls of `frames`, which both cameras share.
+// form, which takes a filter's average. All of them pass the record's numbers and the tables to the calls of `frames`, which both cameras share. The lent
+// tables stay slices of their own, and no struct: that is the form that the documents give these calls.
 #![tactic(auto)]
 
 ghost use Rattle.std.specs.Prelude.{◌≡◌, min, length};
@@ -10,11 +11,11 @@ ghost use Rattle.calculations.specs.Frames.{constants_of, ir_call, to_call, pass
 
 use calibration::Calibration;
 use camera::Subpage;
-use filter::Steadied;
 use formulas::{Constants, RamData, Settings};
 use frames::{Call, Frame, Wanted};
 use map::RANGES;
 use offsets::Offset;
+use refusal::Refusal;
 use roots::SIDE;
 
 // The number of blocks of 32 pixels in a frame.
@@ -28,11 +29,11 @@ pub struct Input {
     pub subpage: Subpage,
 }
 
-// The same inputs, and what a filter returned for the compensation pixel.
+// The same inputs, and a filter's average for the compensation pixel; `None` while there is none.
 #[derive(Clone, Copy)]
 pub struct FilteredInput {
     pub input: Input,
-    pub compensation: Steadied,
+    pub compensation: Option<f32>,
 }
 
 // Returns the record's values that the formulas use.
@@ -78,7 +79,7 @@ fn from_pixels<'a>(
     pixels: &[u8],
     mask: &[u8],
     destination: &mut [u32],
-) -> Frame
+) -> Result<Frame, Refusal>
     ensures { Makes wanted (pass_call calibration (ir_call calibration input compensation offsets0.now offsets1.now k_v.now k_ta.now pixels.now mask.now) alpha.now)
         destination.old destination.new result }
 {
@@ -128,7 +129,7 @@ pub fn raw_ir_to_temperatures(
     alpha: &[f32],
     mask: &[u8],
     destination: &mut [u32],
-) -> Frame
+) -> Result<Frame, Refusal>
     ensures { Temperatures (to_call calibration settings t_a alpha.now mask.now)
         destination.old destination.new result }
 {
@@ -157,7 +158,7 @@ pub fn raw_pixels_to_ir_data<'a>(
     pixels: &[u8],
     mask: &[u8],
     destination: &mut [u32],
-) -> Frame
+) -> Result<Frame, Refusal>
     ensures { Infrareds (ir_call calibration input (own_reading input.ram) offsets0.now offsets1.now k_v.now k_ta.now pixels.now mask.now)
         destination.old destination.new result }
 {
@@ -190,7 +191,7 @@ pub fn filtered_pixels_to_ir_data<'a>(
     pixels: &[u8],
     mask: &[u8],
     destination: &mut [u32],
-) -> Frame
+) -> Result<Frame, Refusal>
     ensures { Infrareds (ir_call calibration filtered.input (steadied filtered.compensation filtered.input.ram) offsets0.now offsets1.now k_v.now k_ta.now pixels.now mask.now)
         destination.old destination.new result }
 {
@@ -226,7 +227,7 @@ pub fn raw_pixels_to_temperatures<'a>(
     pixels: &[u8],
     mask: &[u8],
     destination: &mut [u32],
-) -> Frame
+) -> Result<Frame, Refusal>
     ensures { Passes (pass_call calibration (ir_call calibration input (own_reading input.ram) offsets0.now offsets1.now k_v.now k_ta.now pixels.now mask.now) alpha.now)
         destination.old destination.new result }
 {
@@ -260,7 +261,7 @@ pub fn filtered_pixels_to_temperatures<'a>(
     pixels: &[u8],
     mask: &[u8],
     destination: &mut [u32],
-) -> Frame
+) -> Result<Frame, Refusal>
     ensures { Passes (pass_call calibration (ir_call calibration filtered.input (steadied filtered.compensation filtered.input.ram) offsets0.now offsets1.now k_v.now k_ta.now pixels.now mask.now) alpha.now)
         destination.old destination.new result }
 {
@@ -296,7 +297,7 @@ pub fn raw_pixels_to_ranged_temperatures<'a>(
     pixels: &[u8],
     mask: &[u8],
     destination: &mut [u32],
-) -> Frame
+) -> Result<Frame, Refusal>
     ensures { RangedPasses (pass_call calibration (ir_call calibration input (own_reading input.ram) offsets0.now offsets1.now k_v.now k_ta.now pixels.now mask.now) alpha.now)
         destination.old destination.new result }
 {
@@ -330,7 +331,7 @@ pub fn filtered_pixels_to_ranged_temperatures<'a>(
     pixels: &[u8],
     mask: &[u8],
     destination: &mut [u32],
-) -> Frame
+) -> Result<Frame, Refusal>
     ensures { RangedPasses (pass_call calibration (ir_call calibration filtered.input (steadied filtered.compensation filtered.input.ram) offsets0.now offsets1.now k_v.now k_ta.now pixels.now mask.now) alpha.now)
         destination.old destination.new result }
 {
