@@ -9,12 +9,13 @@ use lib.Seq.{get_or-take, ext_get_or}
 use Rattle.lists.specs.Count.{count_below}
 use Rattle.lists.specs.Written.{written}
 use Rattle.lists.proofs.Written.{length-written}
-use Rattle.refusal.specs.declared.Verdict.TheVariants.{Pass}
+use Rattle.std.specs.Prelude.{⊤, Result, Ok}
+use Rattle.refusal.specs.declared.Refusal.{Refusal}
 use Rattle.map.specs.Map.{card_words, image_bytes, checked_words}
 use Rattle.card.specs.Card.{damaged_at}
 use Rattle.listing.specs.Index.{list_index, listed_word}
-use Rattle.scrub.specs.declared.Scrubbed.{Scrubbed}
-use Rattle.scrub.specs.Scrub.{mended_at, scrubbed, how_many, numbered, Lent, left_of, counts_of, Scrubs}
+use Rattle.scrub.specs.declared.Counts.{Counts}
+use Rattle.scrub.specs.Scrub.{mended_at, scrubbed, how_many, numbered, Lent, left_of, counts_of, counts_or, Scrubs}
 use Rattle.scrub.specs.Laws.{Settled}
 use Rattle.scrub.proofs.Mended.{damaged-checked}
 use Rattle.scrub.proofs.Opened.{closed}
@@ -73,7 +74,7 @@ firsts_same test list other h k =
     (λ i b. let q : i < how_many test = let e = long_as test list h in omega arith in
     get_or-take (how_many test) (numbered test list) i 0 q ∙ entry test list h i q ∙ sym (get_or-take (how_many test) (numbered test other) i 0 q ∙ entry test other k i q))
 
-module _ {before left second after : Lent} {r q : Scrubbed} (s : Scrubs before left r) (e : r.verdict ≡ Pass) (t : Scrubs second after q)
+module _ {before left second after : Lent} {r q : Result Counts Refusal} {n : Counts} (s : Scrubs before left r) (e : r ≡ Ok n) (t : Scrubs second after q)
     (i : second.image ≡ left.image) (c : checked_words ≤ length second.changed) (d : checked_words ≤ length second.damaged) where
   abbrev image : List ℕ
   image = before.image
@@ -85,21 +86,23 @@ module _ {before left second after : Lent} {r q : Scrubbed} (s : Scrubs before l
   unfolding left_of
   image-is = i ∙ ap (λ (x : Lent). x.image) (left_is s e)
 
-  passes : q.verdict ≡ Pass
-  passes = t.verdict ∙ closed second (record { image = let f = ap length image-is in let g = length-after image in let h = enough in omega arith; changed = c; damaged = d })
+  passes : q ≡ Ok (counts_of second.image)
+  passes =
+      t.result ∙ ap (λ (v : Result ⊤ Refusal). counts_or v (counts_of second.image)) (closed second (record { image = let f = ap length image-is in let g = length-after image in let h = enough in omega arith; changed = c; damaged = d }))
 
-  pub again : Settled r left q second after
+  pub again : Settled n left q second after
   unfolding left_of counts_of
   again =
-      let n = few (damaged_at image) (damaged-checked image) in
+      let most = few (damaged_at image) (damaged-checked image) in
       let h = (long s e).damaged in
       record {
+        again = counts_of second.image;
         verdict = passes;
         image = rw (left_is t passes, image-is, left_is s e) (settled image enough);
-        none = rw (counts-are t passes, image-is) (none-changed image enough);
+        none = rw (image-is) (none-changed image enough);
         changed = rw (left_is t passes, image-is) (list-stays image enough second.changed);
-        count = rw (counts-are t passes, counts-are s e, image-is, damaged-after image enough) refl;
+        count = rw (counts-are s e, image-is, damaged-after image enough) refl;
         damaged =
-            rw (counts-are t passes, counts-are s e, left_is t passes, left_is s e, image-is, damaged-after image enough)
+            rw (counts-are s e, left_is t passes, left_is s e, image-is, damaged-after image enough)
             (firsts_same (damaged_at image) second.damaged before.damaged (omega arith) (omega arith));
       }

@@ -6,10 +6,12 @@ use mathlib.Core.List.{List}
 use native.Mathlib.Omega.{arith}
 use lib.ListN.{length}
 use Rattle.util.specs.Words.{word_at}
+use Rattle.std.specs.Prelude.{Result, Ok, Err}
+use Rattle.refusal.specs.declared.Refusal.{Refusal}
 use Rattle.hamming.specs.Word.{says, damaged, data_of, encoded, codeword, flip, decoded}
 use Rattle.hamming.specs.Answer.{check_answer, said_of}
 use Rattle.hamming.specs.declared.Checked.{Checked}
-use Rattle.hamming.specs.declared.Checked.TheVariants.{Clean, Mended, Refused}
+use Rattle.hamming.specs.declared.Checked.TheVariants.{Clean, Mended}
 use Rattle.hamming.proofs.Answers.{check-says}
 use Rattle.hamming.proofs.Laws.{code_of}
 use Rattle.hamming.proofs.Exactly as exactly
@@ -61,12 +63,12 @@ module _ (image : List ℕ) (word : ℕ) where
         go true false e = refl
         go false b e = absurd (true≢false (sym e))
 
-    by_answer : (a : Checked) → check_answer bits ≡ a → Flipped
-    by_answer (Clean d) e = absurd (true≢false (sym (exactly.clean-only bits d e) ∙ no_code))
-    by_answer (Mended d k) e =
+    by_answer : (a : Result Checked Refusal) → check_answer bits ≡ a → Flipped
+    by_answer (Ok (Clean d)) e = absurd (true≢false (sym (exactly.clean-only bits d e) ∙ no_code))
+    by_answer (Ok (Mended d k)) e =
         let o = exactly.mended-only bits d k e in
         record { bit = k; within = o.within; code = o.code; is = code_is (mended-checked image word m) k o.within o.code }
-    by_answer (Refused r) e =
+    by_answer (Err r) e =
         absurd (let f : damaged ≡ says (data_at image word) = sym (ap said_of e) ∙ check-says bits ∙ decodes in let z : ◌≡◌ {A = ℕ} 0 1 = cc in let q : ⊥ = omega arith in q)
 
     pub only-flipped : Flipped

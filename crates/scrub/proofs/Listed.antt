@@ -1,21 +1,21 @@
 -- The two lists: the numbers of the words that pass a test, each once, ascending, and no other. Assumes nothing.
 use Prim.Native.Nat.{ℕ, ◌+◌, ◌-◌, ◌≤◌, ◌<◌}
-use mathlib.Core.Path.{◌≡◌, sym, ap, ◌∙◌, subst}
+use mathlib.Core.Path.{◌≡◌, refl, sym, ap, ◌∙◌, subst}
 use mathlib.Core.Bool.{Bool, true}
 use mathlib.Core.List.{List}
 use native.Mathlib.Nat.{lt_of_not-le}
 use native.Mathlib.Omega.{arith}
 use lib.ListN.{length, get_or}
 use Rattle.lists.proofs.Written.{written_at}
-use Rattle.refusal.specs.declared.Verdict.{Verdict}
-use Rattle.refusal.specs.declared.Verdict.TheVariants.{Pass}
+use Rattle.std.specs.Prelude.{⊤, Result, Ok, Err}
+use Rattle.refusal.specs.declared.Refusal.{Refusal}
 use Rattle.refusal.specs.Refusal.{unless}
 use Rattle.map.specs.Map.{card_words, checked_words, checked}
 use Rattle.card.specs.Card.{damaged_at}
 use Rattle.listing.specs.Index.{list_index, listed_word}
 use Rattle.listing.proofs.Index.{rises, index-before, word-of-index, listed-lt, is-listed, index-of-word, checked-all}
-use Rattle.scrub.specs.declared.Scrubbed.{Scrubbed}
-use Rattle.scrub.specs.Scrub.{mended_at, Lent, left_of, counts_of, how_many, numbered, Scrubs}
+use Rattle.scrub.specs.declared.Counts.{Counts}
+use Rattle.scrub.specs.Scrub.{mended_at, Lent, left_of, counts_of, how_many, numbered, counts_or, scrub_verdict, Scrubs}
 use Rattle.scrub.specs.Laws.{Lists}
 use Rattle.scrub.proofs.Mended.{mended-checked, damaged-checked}
 use Rattle.scrub.proofs.Noted.{fewer}
@@ -52,29 +52,37 @@ pub few : (test : ℕ → Bool) → ((word : ℕ) → test word ≡ true → che
 unfolding how_many
 few test only = let a = fewer test only card_words in let b = checked-all in omega arith
 
--- if the verdict is `Pass`, the new value is the result
-pub new-if : {A : Type 0} {r : Verdict} (new old : A) {x : A} → r ≡ Pass → x ≡ unless r new old → x ≡ new
-new-if new old e p = p ∙ ap (λ (v : Verdict). unless v new old) e
+-- if the verdict is `Ok`, the new value is the result
+pub new-if : {A : Type 0} {r : Result ⊤ Refusal} (new old : A) {x : A} → r ≡ Ok tt → x ≡ unless r new old → x ≡ new
+new-if new old e p = p ∙ ap (λ (v : Result ⊤ Refusal). unless v new old) e
+
+-- a scrub that returns counts is not refused, and they are those of the image
+went : (v : Result ⊤ Refusal) (c n : Counts) → counts_or v c ≡ Ok n → (v ≡ Ok tt) × (n ≡ c)
+went (Ok tt) c n e = (refl, cc e)
+went (Err refusal) c n e = absurd (let z : ◌≡◌ {A = ℕ} 0 1 = cc in omega arith)
 
 -- facts about a scrub that is not refused
-module _ {before after : Lent} {r : Scrubbed} (s : Scrubs before after r) (e : r.verdict ≡ Pass) where
+module _ {before after : Lent} {r : Result Counts Refusal} {n : Counts} (s : Scrubs before after r) (e : r ≡ Ok n) where
+  passes : (scrub_verdict before ≡ Ok tt) × (n ≡ counts_of before.image)
+  passes = went _ _ _ (sym s.result ∙ e)
+
   pub long : Long before
-  long = opened before (sym s.verdict ∙ e)
+  long = opened before passes.0
 
   pub left_is : after ≡ left_of before
-  left_is = new-if _ _ e s.left
+  left_is = new-if _ _ passes.0 s.left
 
-  pub counts-are : r.counts ≡ counts_of before.image
-  counts-are = new-if _ _ e s.counts
+  pub counts-are : n ≡ counts_of before.image
+  counts-are = passes.1
 
-  pub changed-listed : Lists (mended_at before.image) r.counts.changed after.changed
+  pub changed-listed : Lists (mended_at before.image) n.changed after.changed
   unfolding left_of counts_of
   changed-listed =
       let f = few (mended_at before.image) (mended-checked before.image) in
       let h = long.changed in
       rw (left_is, counts-are) (lists (mended_at before.image) before.changed (omega arith))
 
-  pub damaged-listed : Lists (damaged_at before.image) r.counts.damaged after.damaged
+  pub damaged-listed : Lists (damaged_at before.image) n.damaged after.damaged
   unfolding left_of counts_of
   damaged-listed =
       let f = few (damaged_at before.image) (damaged-checked before.image) in

@@ -3,6 +3,7 @@ use Prim.Native.Nat.{ℕ, ◌+◌, ◌*◌, ◌/◌, ◌%◌}
 use mathlib.Core.Path.{◌≡◌, refl, sym, ap, ap₂, ◌∙◌}
 use mathlib.Core.Bool.{Bool, true, false, not, ◌&&◌, true≢false}
 use mathlib.Core.List.{List}
+use native.Mathlib.Omega.{arith}
 use lib.ListN.{set}
 use Rattle.lists.specs.Pick.{pick}
 use Rattle.util.specs.Words.{word_at}
@@ -10,6 +11,7 @@ use Rattle.hamming.specs.Word.{Said, says, is_said, said_data, codeword, decoded
 use Rattle.map.specs.Map.{checked}
 use Rattle.card.specs.Card.{read_at, data_at, damaged_at, stray_at}
 use Rattle.scrub.specs.Scrub.{mended_at, code_at}
+use Rattle.scrub.specs.declared.Found.TheVariants.{Sound, Mended, Damaged}
 use Rattle.scrub.specs.Inner.{found_at, word_mended}
 
 -- ---- two images with the same word
@@ -81,8 +83,40 @@ module _ (image : List ℕ) (word : ℕ) where
 
   -- ---- the same facts, in the form of the code
 
-  pub found : (m d : Bool) → mended_at image word ≡ m → damaged_at image word ≡ d → record { mended = m; damaged = d } ≡ found_at image word
-  found m d e f = sym (ap₂ (λ (x y : Bool). record { mended = x; damaged = y }) e f)
+  pub is_damaged : damaged_at image word ≡ true → Damaged ≡ found_at image word
+  is_damaged e = rw e refl
+
+  pub was-mended : mended_at image word ≡ true → Mended ≡ found_at image word
+  was-mended e = rw (e, (mended-only e).1) refl
+
+  pub is-sound : damaged_at image word ≡ false → mended_at image word ≡ false → Sound ≡ found_at image word
+  is-sound e f = rw (e, f) refl
+
+  -- and back
+
+  by-sound : (d m : Bool) → Sound ≡ pick d Damaged (pick m Mended Sound) → (m ≡ false) × (d ≡ false)
+  by-sound true m e = absurd (let z : ◌≡◌ {A = ℕ} 0 1 = cc in omega arith)
+  by-sound false true e = absurd (let z : ◌≡◌ {A = ℕ} 0 1 = cc in omega arith)
+  by-sound false false e = (refl, refl)
+
+  by-mended : (d m : Bool) → Mended ≡ pick d Damaged (pick m Mended Sound) → (m ≡ true) × (d ≡ false)
+  by-mended true m e = absurd (let z : ◌≡◌ {A = ℕ} 0 1 = cc in omega arith)
+  by-mended false true e = (refl, refl)
+  by-mended false false e = absurd (let z : ◌≡◌ {A = ℕ} 0 1 = cc in omega arith)
+
+  by-damaged : (d m : Bool) → Damaged ≡ pick d Damaged (pick m Mended Sound) → d ≡ true
+  by-damaged true m e = refl
+  by-damaged false true e = absurd (let z : ◌≡◌ {A = ℕ} 0 1 = cc in omega arith)
+  by-damaged false false e = absurd (let z : ◌≡◌ {A = ℕ} 0 1 = cc in omega arith)
+
+  pub found-sound : Sound ≡ found_at image word → (mended_at image word ≡ false) × (damaged_at image word ≡ false)
+  found-sound e = by-sound (damaged_at image word) (mended_at image word) e
+
+  pub found-mended : Mended ≡ found_at image word → (mended_at image word ≡ true) × (damaged_at image word ≡ false)
+  found-mended e = by-mended (damaged_at image word) (mended_at image word) e
+
+  pub found-damaged : Damaged ≡ found_at image word → (mended_at image word ≡ false) × (damaged_at image word ≡ true)
+  found-damaged e = let d = by-damaged (damaged_at image word) (mended_at image word) e in (damaged-stays d, d)
 
   pub stays : mended_at image word ≡ false → image ≡ word_mended image word
   stays e = rw e refl

@@ -64,6 +64,14 @@ module _ (test : ℕ → Bool) where
           (kept_more test (λ w. w) (list_index test card_words) refl word h n.stored);
     }
 
+  module _ {list₀ list : List ℕ} {count word : ℕ} (n : Noted test list₀ list count word) (h : word < card_words) where
+    -- a word that passes is listed, any other is not
+    pub listed : {after : List ℕ} {r : ℕ} → test word ≡ true → r ≡ count + 1 → after ≡ set list count word → Noted test list₀ after r (word + 1)
+    listed t e f = one_more {listed = true} n h (sym t) e f
+
+    pub left-out : test word ≡ false → Noted test list₀ list count (word + 1)
+    left-out t = one_more {listed = false} n h (sym t) (omega arith) refl
+
   pub done : {list₀ list : List ℕ} {count word : ℕ} → Noted test list₀ list count word → word ≡ card_words → (count ≡ how_many test) × (list ≡ numbered test list₀)
   unfolding how_many numbered
   done n e = (n.counted ∙ ap (list_index test) e, fill.done _ n.stored (le_of_eq (sym (ap (list_index test) e))))

@@ -4,7 +4,7 @@ use mathlib.Core.Path.{◌≡◌, refl}
 use mathlib.Core.Bool.{Bool, true, false, ◌||◌, true≢false}
 use borrow.Author.Tests.{ltb-false, le-ltb}
 use lib.ListN.{length}
-use Rattle.refusal.specs.declared.Verdict.TheVariants.{Pass}
+use Rattle.std.specs.Prelude.{Ok}
 use Rattle.refusal.specs.Order.{first_of}
 use Rattle.refusal.proofs.Order.{passed}
 use Rattle.map.specs.Map.{image_bytes, checked_words}
@@ -20,7 +20,7 @@ pub record Long (before : Lent) : Type 0 where
   pub changed : checked_words ≤ length before.changed
   pub damaged : checked_words ≤ length before.damaged
 
-pub opened : (before : Lent) → scrub_verdict before ≡ Pass → Long before
+pub opened : (before : Lent) → scrub_verdict before ≡ Ok tt → Long before
 unfolding scrub_tests
 opened before e =
     let p = passed _ _ _ e in
@@ -29,6 +29,6 @@ opened before e =
     record { image = ltb-false _ _ p.0; changed = ltb-false _ _ b.0; damaged = ltb-false _ _ b.1 }
 
 -- such slices are not refused
-pub closed : (before : Lent) → Long before → scrub_verdict before ≡ Pass
+pub closed : (before : Lent) → Long before → scrub_verdict before ≡ Ok tt
 unfolding scrub_tests first_of
 closed before l = simp (le-ltb _ _ l.image, le-ltb _ _ l.changed, le-ltb _ _ l.damaged)

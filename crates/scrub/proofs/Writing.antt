@@ -15,8 +15,8 @@ use Rattle.lists.specs.Written.{filled}
 use Rattle.lists.proofs.Again.{written_same}
 use Rattle.lists.proofs.First.{first-is}
 use Rattle.lists.proofs.Written.{written-past, length-written}
-use Rattle.refusal.specs.declared.Verdict.{Verdict}
-use Rattle.refusal.specs.declared.Verdict.TheVariants.{Pass}
+use Rattle.std.specs.Prelude.{⊤, Result, Ok}
+use Rattle.refusal.specs.declared.Refusal.{Refusal}
 use Rattle.refusal.specs.Refusal.{unless}
 use Rattle.refusal.specs.Order.{first_of}
 use Rattle.util.specs.Words.{word_at}
@@ -31,7 +31,7 @@ use Rattle.listing.proofs.Opened as reading
 use Rattle.writer.specs.Write.{word_from, byte_of, image_from, Writes}
 use Rattle.writer.specs.Round.{Clean, Bytes, firsts}
 use Rattle.writer.proofs.Round.{undamaged, write-passes, back-bytes}
-use Rattle.scrub.specs.declared.Scrubbed.{Scrubbed}
+use Rattle.scrub.specs.declared.Counts.{Counts}
 use Rattle.scrub.specs.Scrub.{mended_at, code_at, scrubbed, how_many, Lent, left_of, counts_of, Scrubs}
 use Rattle.scrub.proofs.Mended.{mended-checked}
 use Rattle.scrub.proofs.Listed.{new-if, long, left_is, counts-are}
@@ -114,7 +114,7 @@ module _ (image : List ℕ) (l : image_bytes ≤ length image) where
   unfolding read_tests
   same_tests m n = rw (length-after image, first-after image l, first_word image l) refl
 
-  reads-after : {b a : Lists} {r : Verdict} → Reads image b a r → Reads (scrubbed image) b a r
+  reads-after : {b a : Lists} {r : Result ⊤ Refusal} → Reads image b a r → Reads (scrubbed image) b a r
   reads-after {b} {a} {r} d = record {
     verdict = d.verdict ∙ sym (ap first_of (same_tests (length b.checked) (length b.unchecked)));
     lent = d.lent ∙ sym (ap (λ (x : Lists). unless r x b) (same_lists b));
@@ -122,7 +122,7 @@ module _ (image : List ℕ) (l : image_bytes ≤ length image) where
 
 -- ---- reading the card and writing what was read
 
-module _ {before after : Lent} {r : Scrubbed} (s : Scrubs before after r) (e : r.verdict ≡ Pass) (none : r.counts.damaged ≡ 0) where
+module _ {before after : Lent} {r : Result Counts Refusal} {n : Counts} (s : Scrubs before after r) (e : r ≡ Ok n) (none : n.damaged ≡ 0) where
   abbrev image : List ℕ
   image = before.image
 
@@ -130,17 +130,17 @@ module _ {before after : Lent} {r : Scrubbed} (s : Scrubs before after r) (e : r
   unfolding counts_of
   undamaged-all = le_of_eq (none_first image (none_passes (damaged_at image) (rw (counts-are s e) at none)))
 
-  module _ {b a : Lists} {v : Verdict} (d : Reads image b a v) (h : checked_words ≤ length b.checked) (k : unchecked_words ≤ length b.unchecked) where
-    pub reads : v ≡ Pass
+  module _ {b a : Lists} {v : Result ⊤ Refusal} (d : Reads image b a v) (h : checked_words ≤ length b.checked) (k : unchecked_words ≤ length b.unchecked) where
+    pub reads : v ≡ Ok tt
     reads =
         d.verdict
         ∙ reading.closed image (length b.checked) (length b.unchecked) (record { image-long = (long s e).image; first-long = h; second-long = k; none = undamaged-all })
 
-    module _ {lent written : List ℕ} {w : Verdict} (m : image_bytes ≤ length lent) (o : Writes (firsts a) lent written w) where
-      read_off : Reads (scrubbed image) b a Pass
+    module _ {lent written : List ℕ} {w : Result ⊤ Refusal} (m : image_bytes ≤ length lent) (o : Writes (firsts a) lent written w) where
+      read_off : Reads (scrubbed image) b a (Ok tt)
       read_off = rw reads at (reads-after image (long s e).image d)
 
-      pub writes : w ≡ Pass
+      pub writes : w ≡ Ok tt
       writes = write-passes read_off m o
 
       -- writing gives the same 1,664 bytes as the scrub
@@ -152,7 +152,7 @@ module _ {before after : Lent} {r : Scrubbed} (s : Scrubs before after r) (e : r
           (back-bytes read_off m o (scrubbed-clean image l (subst (λ (n : ℕ). card_words ≤ n) (sym (first-after image l)) undamaged-all)) (scrubbed-bytes image l y))
 
     -- if the lists are written over the card itself, every byte is the same
-    module _ {written : List ℕ} {w : Verdict} (o : Writes (firsts a) image written w) (y : Bytes image) where
+    module _ {written : List ℕ} {w : Result ⊤ Refusal} (o : Writes (firsts a) image written w) (y : Bytes image) where
       abbrev l : image_bytes ≤ length image
       l = (long s e).image
 

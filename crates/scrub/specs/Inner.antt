@@ -3,11 +3,12 @@ use Rattle.std.specs.Prelude.{ℕ, ◌+◌, ◌*◌, ◌/◌, ◌%◌, List, set
 use Rattle.lists.specs.Pick.{pick}
 use Rattle.card.specs.Card.{damaged_at}
 use Rattle.scrub.specs.declared.Found.{Found}
+use Rattle.scrub.specs.declared.Found.TheVariants.{Sound, Mended, Damaged}
 use Rattle.scrub.specs.Scrub.{mended_at, code_at}
 
--- the state of a word: whether it is mended, whether it is damaged
+-- the state of a word: damaged, mended or neither
 abbrev pub found_at : List ℕ → ℕ → Found
-found_at image word = record { mended = mended_at image word; damaged = damaged_at image word }
+found_at image word = pick (damaged_at image word) Damaged (pick (mended_at image word) Mended Sound)
 
 -- the image with this word replaced by its codeword, if it is mended; else the image as it is
 abbrev pub word_mended : List ℕ → ℕ → List ℕ

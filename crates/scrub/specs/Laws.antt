@@ -1,11 +1,13 @@
 -- What is proved of a scrub: its lists, a second scrub, and loading before and after it. Assumes nothing.
-use Rattle.std.specs.Prelude.{ℕ, ◌<◌, ◌≡◌, Bool, true, List, get_or, take}
-use Rattle.refusal.specs.declared.Verdict.TheVariants.{Pass}
+use Rattle.std.specs.Prelude.{ℕ, ◌<◌, ◌≡◌, Bool, true, List, get_or, take, Result, Ok, Err}
+use Rattle.refusal.specs.declared.Refusal.{Refusal}
 use Rattle.map.specs.Map.{card_words}
 use Rattle.card.specs.Card.{no_mending}
+use Rattle.card.specs.declared.Mending.{Mending}
 use Rattle.eeprom.specs.declared.Loaded.{Loaded}
 use Rattle.eeprom.specs.Load.{Tables}
-use Rattle.scrub.specs.declared.Scrubbed.{Scrubbed}
+use Rattle.writer.specs.Round.{record_in}
+use Rattle.scrub.specs.declared.Counts.{Counts}
 use Rattle.scrub.specs.Scrub.{Lent}
 
 -- the first n entries of the list are the numbers of exactly those words of a card that pass the test, ascending, so each occurs once
@@ -16,19 +18,24 @@ pub record Lists (test : ℕ → Bool) (n : ℕ) (list : List ℕ) : Type 0 wher
   pub all : (word : ℕ) → word < card_words → test word ≡ true → (i : ℕ) × (i < n) × (get_or list i 0 ≡ word)
 
 -- a second scrub, of the image that the first left: it is not refused, changes no byte, counts and lists no changed word, and lists the same damaged
--- words. r and `left` are the first scrub's result and slices; q, `before` and `after` the second's.
-pub record Settled (r : Scrubbed) (left : Lent) (q : Scrubbed) (before after : Lent) : Type 0 where
-  pub verdict : q.verdict ≡ Pass
+-- words. r and `left` are the first scrub's counts and slices; q, `before` and `after` the second's result and slices, and `again` its counts.
+pub record Settled (r : Counts) (left : Lent) (q : Result Counts Refusal) (before after : Lent) : Type 0 where
+  pub again : Counts
+  pub verdict : q ≡ Ok again
   pub image : after.image ≡ left.image
-  pub none : q.counts.changed ≡ 0
+  pub none : again.changed ≡ 0
   pub changed : after.changed ≡ before.changed
-  pub count : q.counts.damaged ≡ r.counts.damaged
-  pub damaged : take q.counts.damaged after.damaged ≡ take r.counts.damaged left.damaged
+  pub count : again.damaged ≡ r.damaged
+  pub damaged : take again.damaged after.damaged ≡ take r.damaged left.damaged
+
+-- the mended words that a load counts; none after a refusal
+abbrev pub mending_in : Result Loaded Refusal → Mending
+mending_in (Ok loaded) = loaded.mending
+mending_in (Err refusal) = no_mending
 
 -- two loads, of a card before and after a scrub: they have the same verdict, refusals included, the same record and the same tables, and the second
 -- counts no word as mended
-pub record Alike (p q : Loaded) (x y : Tables) : Type 0 where
-  pub verdict : q.verdict ≡ p.verdict
-  pub calibration : q.calibration ≡ p.calibration
+pub record Alike (p q : Result Loaded Refusal) (x y : Tables) : Type 0 where
+  pub calibration : record_in q ≡ record_in p
   pub tables : y ≡ x
-  pub none : q.mending ≡ no_mending
+  pub none : mending_in q ≡ no_mending

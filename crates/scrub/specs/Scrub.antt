@@ -1,9 +1,9 @@
 -- Document 02, request 6: which words a scrub changes and to what, what it writes to the image and to two lists, what stops it, and what it returns.
 -- Assumes nothing.
-use Rattle.std.specs.Prelude.{ℕ, ◌/◌, ◌≡◌, Bool, not, ◌&&◌, ◌||◌, List, [], ◌∷◌, ltb, length}
+use Rattle.std.specs.Prelude.{ℕ, ◌/◌, ◌≡◌, Bool, not, ◌&&◌, ◌||◌, List, [], ◌∷◌, ltb, length, ⊤, Result, Ok, Err}
 use Rattle.lists.specs.Written.{written, filled}
 use Rattle.refusal.specs.declared.Refusal.TheVariants.{ShortImage, ShortTable}
-use Rattle.refusal.specs.declared.Verdict.{Verdict}
+use Rattle.refusal.specs.declared.Refusal.{Refusal}
 use Rattle.refusal.specs.Refusal.{unless}
 use Rattle.refusal.specs.Order.{Test, ◌refuses◌, first_of}
 use Rattle.hamming.specs.Word.{encoded}
@@ -12,7 +12,6 @@ use Rattle.card.specs.Card.{data_at, damaged_at, stray_at}
 use Rattle.listing.specs.Index.{list_index, listed_word}
 use Rattle.writer.specs.Write.{byte_of}
 use Rattle.scrub.specs.declared.Counts.{Counts}
-use Rattle.scrub.specs.declared.Scrubbed.{Scrubbed}
 
 -- ---- the image
 
@@ -73,13 +72,17 @@ scrub_tests image changed damaged =
     ∷ []
 
 -- the verdict of a scrub
-abbrev pub scrub_verdict : Lent → Verdict
+abbrev pub scrub_verdict : Lent → Result ⊤ Refusal
 scrub_verdict before = first_of (scrub_tests (length before.image) (length before.changed) (length before.damaged))
 
 -- ---- the contract
 
+-- what `scrub` returns: the refusal, or the counts
+abbrev pub counts_or : Result ⊤ Refusal → Counts → Result Counts Refusal
+counts_or (Ok _) counts = Ok counts
+counts_or (Err refusal) counts = Err refusal
+
 -- the contract of `scrub`: the caller's slices before and after, and its result r
-pub record Scrubs (before after : Lent) (r : Scrubbed) : Type 0 where
-  pub verdict : r.verdict ≡ scrub_verdict before
-  pub counts : r.counts ≡ unless r.verdict (counts_of before.image) no_counts
-  pub left : after ≡ unless r.verdict (left_of before) before
+pub record Scrubs (before after : Lent) (r : Result Counts Refusal) : Type 0 where
+  pub result : r ≡ counts_or (scrub_verdict before) (counts_of before.image)
+  pub left : after ≡ unless (scrub_verdict before) (left_of before) before

@@ -3,7 +3,6 @@
 #![tactic(auto)]
 
 ghost use Rattle.std.specs.Prelude.{◌≡◌, ◌+◌, ◌*◌, ◌<◌, ◌≤◌, length, set};
-ghost use Rattle.lists.specs.Pick.{pick};
 ghost use Rattle.refusal.specs.Order.{first_of};
 ghost use Rattle.map.specs.Map.{card_words, image_bytes, checked_words};
 ghost use Rattle.scrub.specs.Scrub.{lent, counts_of, left_of, scrub_tests, Scrubs};
@@ -14,24 +13,18 @@ use map::{IMAGE_BYTES, WORDS};
 use refusal::{Refusal, Verdict};
 
 // The number of words that were changed, and the number of damaged words.
-#[derive(Clone, Copy)]
+#[derive(Clone, Copy, Debug, PartialEq, Eq)]
 pub struct Counts {
     pub changed: usize,
     pub damaged: usize,
 }
 
-// The result of a scrub: the verdict, and the number of entries written to each list. After a refusal both counts are 0.
-#[derive(Clone, Copy)]
-pub struct Scrubbed {
-    pub verdict: Verdict,
-    pub counts: Counts,
-}
-
-// The state in which a word was found: one flip from a codeword (`mended`), damaged, or neither.
-#[derive(Clone, Copy)]
-pub struct Found {
-    pub mended: bool,
-    pub damaged: bool,
+// The state in which a word was found. A mended word was one flip from a codeword; a sound one needs no mending.
+#[derive(Clone, Copy, Debug, PartialEq, Eq)]
+pub enum Found {
+    Sound,
+    Mended,
+    Damaged,
 }
 
 // Mends a word of an image if it is one flip from a codeword, and returns what it was.
@@ -40,38 +33,25 @@ fn mend_word(image: &mut [u8], word: usize) -> Found
     ensures value { result ≡ found_at image.old word }
     ensures image_after { image.new ≡ word_mended image.old word }
 {
-    let read = card::read_word(image, word);
-    if read.damaged {
-        return Found {
-            mended: false,
-            damaged: true,
-        };
-    }
+    let Some(read) = card::read_word(image, word) else {
+        return Found::Damaged;
+    };
     if read.stray {
         let code = writer::codeword(read.value);
         writer::put_word(image, word, code);
-        return Found {
-            mended: true,
-            damaged: false,
-        };
+        return Found::Mended;
     }
-    Found {
-        mended: false,
-        damaged: false,
-    }
+    Found::Sound
 }
 
-// Appends a word's number to a list of `count` entries, if it is to be listed. Returns the new number of entries.
-fn note(list: &mut [u16], count: usize, word: usize, listed: bool) -> usize
+// Appends a word's number to a list of `count` entries. Returns the new number of entries.
+fn note(list: &mut [u16], count: usize, word: usize) -> usize
     requires { (count < length list.old) × (word < card_words) }
-    ensures value { result ≡ count + pick listed 1 0 }
-    ensures list_after { list.new ≡ pick listed (set list.old count word) list.old }
+    ensures value { result ≡ count + 1 }
+    ensures list_after { list.new ≡ set list.old count word }
 {
-    if listed {
-        list[count] = word as u16;
-        return count + 1;
-    }
-    count
+    list[count] = word as u16;
+    count + 1
 }
 
 // Mends all words of an image, and lists those that it changed and those that are damaged.
@@ -81,14 +61,14 @@ fn scrub_words(image: &mut [u8], changed: &mut [u16], damaged: &mut [u16]) -> Co
     ensures value { result ≡ counts_of image.old }
     ensures damaged_after { lent image.new changed.new damaged.new ≡ left_of (lent image.old changed.old damaged.old) }
 {
-    let mut mended: usize = 0;
-    let mut broken: usize = 0;
-    let mut word: usize = 0;
-    while word < WORDS {
-        let found = mend_word(image, word);
-        mended = note(changed, mended, word, found.mended);
-        broken = note(damaged, broken, word, found.damaged);
-        word += 1;
+    let mut mended = 0;
+    let mut broken = 0;
+    for word in 0..WORDS {
+        match mend_word(image, word) {
+            Found::Sound => {},
+            Found::Mended => mended = note(changed, mended, word),
+            Found::Damaged => broken = note(damaged, broken, word),
+        }
     }
     Counts {
         changed: mended,
@@ -101,32 +81,22 @@ fn gate(image: usize, changed: usize, damaged: usize) -> Verdict
     ensures { result ≡ first_of (scrub_tests image changed damaged) }
 {
     if image < IMAGE_BYTES {
-        return Verdict::Refused(Refusal::ShortImage { length: image });
+        return Err(Refusal::ShortImage { length: image });
     }
     if changed < CHECKED_WORDS {
-        return Verdict::Refused(Refusal::ShortTable);
+        return Err(Refusal::ShortTable);
     }
     if damaged < CHECKED_WORDS {
-        return Verdict::Refused(Refusal::ShortTable);
+        return Err(Refusal::ShortTable);
     }
-    Verdict::Pass
+    Ok(())
 }
 
 // Mends a card in place. Writes the numbers of the words that it changed to the start of `changed`, and of the damaged words, which stay as they are, to
 // the start of `damaged`: each once, ascending. A short image is refused by 1, a short list by 2; then nothing changes.
-pub fn scrub(image: &mut [u8], changed: &mut [u16], damaged: &mut [u16]) -> Scrubbed
+pub fn scrub(image: &mut [u8], changed: &mut [u16], damaged: &mut [u16]) -> Result<Counts, Refusal>
     ensures { Scrubs (lent image.old changed.old damaged.old) (lent image.new changed.new damaged.new) result }
 {
-    let verdict = gate(image.len(), changed.len(), damaged.len());
-    let Verdict::Pass = verdict else {
-        return Scrubbed {
-            verdict,
-            counts: Counts {
-                changed: 0,
-                damaged: 0,
-            },
-        };
-    };
-    let counts = scrub_words(image, changed, damaged);
-    Scrubbed { verdict, counts }
+    gate(image.len(), changed.len(), damaged.len())?;
+    Ok(scrub_words(image, changed, damaged))
 }
