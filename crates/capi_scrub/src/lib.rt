@@ -4,8 +4,6 @@
 ghost use Rattle.scrub.specs.Scrub.{lent};
 ghost use Rattle.capi_scrub.specs.Scrubbing.{Scrubbing};
 
-use refusal::Verdict;
-
 // The result of a scrub: number, place and value of the refusal, all 0 for none; the number of words that it changed, and the number of damaged words, which
 // are unchanged; both 0 after a refusal.
 #[repr(C)]
@@ -27,15 +25,23 @@ pub extern "C" fn loamchalice_scrub(
 ) -> Scrub
     ensures { Scrubbing (lent image.old changed.old damaged.old) (lent image.new changed.new damaged.new) result }
 {
-    let scrubbed = scrub::scrub(image, changed, damaged);
-    let verdict = scrubbed.verdict;
-    let counts = scrubbed.counts;
-    let told = verdict.told();
-    Scrub {
-        number: told.number,
-        place: told.place,
-        value: told.value,
-        changed: counts.changed,
-        damaged: counts.damaged,
+    match scrub::scrub(image, changed, damaged) {
+        Ok(counts) => Scrub {
+            number: 0,
+            place: 0,
+            value: 0,
+            changed: counts.changed,
+            damaged: counts.damaged,
+        },
+        Err(refusal) => {
+            let told = refusal.told();
+            Scrub {
+                number: told.number,
+                place: told.place,
+                value: told.value,
+                changed: 0,
+                damaged: 0,
+            }
+        },
     }
 }
