@@ -6,11 +6,14 @@ ghost use Rattle.eeprom.specs.Load.{tables};
 ghost use Rattle.eeprom.specs.Parts.{row_of, offsets_of};
 ghost use Rattle.listing.specs.Index.{lists};
 ghost use Rattle.capi_record.specs.Record.{subpage_of};
-ghost use Rattle.capi_cards.specs.Border.{outcome_of, Loading, Writing, Reading, row_place, offsets_place};
+ghost use Rattle.capi_cards.specs.Border.{load_of, loaded_out, outcome_of, Loading, Writing, Reading, row_place, offsets_place};
 
+use calibration::Calibration;
 use capi_record::Record;
+use card::Mending;
+use eeprom::Loaded;
 use offsets::Offset;
-use refusal::Verdict;
+use refusal::{Refusal, Told, Verdict};
 
 // The result of a load: number, place and value of the refusal, all 0 for none; the number of checked words that were mended, and the last of them (832 if
 // there is none, and after a refusal); and the calibration record, all zero after a refusal.
@@ -42,6 +45,36 @@ pub struct Part {
     pub length: usize,
 }
 
+// Returns a refusal's numbers, a record and the mended words as C has them.
+fn load_of(told: Told, calibration: Calibration, mending: Mending) -> Load
+    ensures { result ≡ load_of told calibration mending }
+{
+    Load {
+        number: told.number,
+        place: told.place,
+        value: told.value,
+        mended: mending.count,
+        last_mended: mending.last,
+        calibration: capi_record::record_out(calibration),
+    }
+}
+
+// Returns the result of a load as C has it; after a refusal the record is all zero and no word counts as mended.
+pub fn load_out(loaded: Result<Loaded, Refusal>) -> Load
+    ensures { result ≡ loaded_out loaded }
+{
+    match loaded {
+        Ok(loaded) => {
+            let told = refusal::verdict_told(Ok(()));
+            load_of(told, loaded.calibration, loaded.mending)
+        }
+        Err(refusal) => {
+            let told = refusal.told();
+            load_of(told, calibration::no_calibration(), card::no_mending())
+        }
+    }
+}
+
 // Loads a card; its range coefficients are 1 at the basic range. Refusals 1 to 4, 6 and 13; after one the tables are unchanged. Table entries past 192 are
 // unchanged.
 #[unsafe(no_mangle)]
@@ -58,30 +91,18 @@ pub extern "C" fn loamchalice_load(
         (tables offsets0.new offsets1.new alpha.new k_v.new k_ta.new) result }
 {
     let loaded = eeprom::load(image, basic_range, offsets0, offsets1, alpha, k_v, k_ta);
-    let verdict = loaded.verdict;
-    let inner = loaded.calibration;
-    let mending = loaded.mending;
-    let told = verdict.told();
-    let calibration = capi_record::record_out(inner);
-    Load {
-        number: told.number,
-        place: told.place,
-        value: told.value,
-        mended: mending.count,
-        last_mended: mending.last,
-        calibration,
-    }
+    load_out(loaded)
 }
 
 // Returns a verdict as C has it.
 pub fn said(verdict: Verdict) -> Outcome
     ensures { result ≡ outcome_of verdict }
 {
-    let refused = verdict.told();
+    let told = refusal::verdict_told(verdict);
     Outcome {
-        number: refused.number,
-        place: refused.place,
-        value: refused.value,
+        number: told.number,
+        place: told.place,
+        value: told.value,
     }
 }
 
