@@ -32,22 +32,24 @@ pub extern "C" fn loamchalice_root(x: f32) -> u32
     floats::to_bits(root::fourth_root(x))
 }
 
-// Returns a refusal as C has it.
-fn refused_word(refusal: Refusal) -> Word
-    ensures { result ≡ refused_word refusal }
-{
-    let told = refusal.told();
-    Word {
-        number: told.number,
-        place: told.place,
-        value: told.value,
-        word: 0,
-        mended: 0,
-        bit: 0,
+// A refusal as C has it.
+impl From<Refusal> for Word {
+    ghost from_gives = { λ refusal result. result ≡ refused_word refusal };
+
+    fn from(refusal: Refusal) -> Word {
+        let told = refusal.told();
+        Word {
+            number: told.number,
+            place: told.place,
+            value: told.value,
+            word: 0,
+            mended: 0,
+            bit: 0,
+        }
     }
 }
 
-// Returns a word, or a word's data, without a refusal.
+// Returns a word, or a word's data, without a refusal. A function, since a `From` has one argument.
 fn good_word(word: u16, mended: u8, bit: u8) -> Word
     ensures { result ≡ good_word word mended bit }
 {
@@ -68,7 +70,7 @@ pub extern "C" fn loamchalice_encode(data: u16) -> Word
 {
     match hamming::encode(data) {
         Ok(word) => good_word(word, 0, 0),
-        Err(too_large) => refused_word(too_large),
+        Err(too_large) => Word::from(too_large),
     }
 }
 
@@ -80,6 +82,6 @@ pub extern "C" fn loamchalice_check(word: u16) -> Word
     match hamming::check(word) {
         Ok(Checked::Clean(data)) => good_word(data, 0, 0),
         Ok(Checked::Mended { data, bit }) => good_word(data, 1, bit),
-        Err(damaged) => refused_word(damaged),
+        Err(damaged) => Word::from(damaged),
     }
 }
