@@ -1,10 +1,13 @@
 // The MLX90640's card, for C and Rust. The call passes its arguments to an inner call and makes the same promise.
 #![tactic(auto)]
 
+ghost use Rattle.std.specs.Prelude.{◌≡◌};
 ghost use Rattle.load640.specs.Load.{tables};
-ghost use Rattle.capi_load640.specs.Border.{Loading};
+ghost use Rattle.capi_load640.specs.Border.{loaded_out, Loading};
 
 use capi_record640::Record640;
+use record640::Calibration;
+use refusal::Refusal;
 
 // The result of a load: number, place and value of the refusal, all 0 for none; and the record, all zero after a refusal.
 #[repr(C)]
@@ -14,6 +17,22 @@ pub struct Load640 {
     pub place: u64,
     pub value: u64,
     pub calibration: Record640,
+}
+
+// The result of a load as C has it.
+fn loaded_out(answer: Result<Calibration, Refusal>) -> Load640
+    ensures { result ≡ loaded_out answer }
+{
+    let (told, calibration) = match answer {
+        Ok(calibration) => (refusal::verdict_told(Ok(())), calibration),
+        Err(refusal) => (refusal.told(), record640::no_calibration()),
+    };
+    Load640 {
+        number: told.number,
+        place: told.place,
+        value: told.value,
+        calibration: capi_record640::record_out(calibration),
+    }
 }
 
 // Loads a card; its range coefficients are 1 at the basic range. Refusals 1, 2, 5 and 6 (13 is tested, and never holds); after one the tables are unchanged.
@@ -29,15 +48,5 @@ pub extern "C" fn loamchalice_mlx90640_load(
     ensures { Loading image.now basic_range (tables offsets.old alpha.old k_ta.old)
         (tables offsets.new alpha.new k_ta.new) result }
 {
-    let loaded = load640::load(image, basic_range, offsets, alpha, k_ta);
-    let verdict = loaded.verdict;
-    let inner = loaded.calibration;
-    let told = verdict.told();
-    let calibration = capi_record640::record_out(inner);
-    Load640 {
-        number: told.number,
-        place: told.place,
-        value: told.value,
-        calibration,
-    }
+    loaded_out(load640::load(image, basic_range, offsets, alpha, k_ta))
 }
