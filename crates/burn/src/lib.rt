@@ -108,16 +108,6 @@ pub fn next_step(present: &[u8], wanted: &[u8]) -> Result<Option<Step>, Refusal>
     Ok(first_step(present, wanted))
 }
 
-fn set_word(image: &mut [u8], word: usize, value: u16)
-    requires { word * 2 + 1 < length image.old }
-    ensures { image.new ≡ word_set image.old word value }
-{
-    let high = word * 2;
-    let low = high + 1;
-    image[high] = (value / 256) as u8;
-    image[low] = (value % 256) as u8;
-}
-
 // Does the next step on the present image. With none to do, and after refusal 1 or 11, it changes nothing.
 pub fn burn(present: &mut [u8], wanted: &[u8]) -> Result<Burnt, Refusal>
     ensures { Burns present.old wanted.now present.new result }
@@ -128,7 +118,7 @@ pub fn burn(present: &mut [u8], wanted: &[u8]) -> Result<Burnt, Refusal>
             reached: true,
         });
     };
-    set_word(present, step.word, step.value);
+    util::put_word(present, step.word, step.value);
     let reached = first_differing(present, wanted).is_none();
     Ok(Burnt {
         step: Some(step),

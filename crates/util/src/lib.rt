@@ -1,7 +1,7 @@
 // Words and their fields: big-endian words, signed fields of any width, combined words, words split in two; and the lesser of two lengths.
 #![tactic(auto)]
 
-ghost use Rattle.std.specs.Prelude.{◌≡◌, min, ◌+◌, ◌*◌, ◌<◌, ◌≤◌, ◌-ℤ◌, length};
+ghost use Rattle.std.specs.Prelude.{◌≡◌, min, ◌+◌, ◌*◌, ◌/◌, ◌%◌, ◌<◌, ◌≤◌, ◌-ℤ◌, length, set};
 ghost use Rattle.std.specs.Int.Signed.{mag};
 ghost use Rattle.util.specs.Words.{big_endian, swapped, word_at};
 ghost use Rattle.util.specs.Fields.{signed, combined, pair_of, in_i16};
@@ -47,6 +47,17 @@ pub fn word_by_one_load(bytes: &[u8], index: usize) -> u16
 {
     let word = swapped_at(bytes, index);
     big_endian((word % 256) as u8, (word / 256) as u8)
+}
+
+// Writes a word, high byte first, as word number `index` of the bytes, which must be long enough.
+pub fn put_word(bytes: &mut [u8], index: usize, word: u16)
+    requires { index * 2 + 1 < length bytes.old }
+    ensures { bytes.new ≡ set (set bytes.old (index * 2) (word / 256)) (index * 2 + 1) (word % 256) }
+{
+    let high = index * 2;
+    let low = high + 1;
+    bytes[high] = (word / 256) as u8;
+    bytes[low] = (word % 256) as u8;
 }
 
 // The word as a u32.

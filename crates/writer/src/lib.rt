@@ -26,17 +26,6 @@ pub fn codeword(data: u16) -> u16
     }
 }
 
-// Writes a word, high byte first, as word number `index` of the bytes, which must be long enough.
-pub fn put_word(bytes: &mut [u8], index: usize, word: u16)
-    requires { index * 2 + 1 < length bytes.old }
-    ensures { bytes.new ≡ set (set bytes.old (index * 2) (word / 256)) (index * 2 + 1) (word % 256) }
-{
-    let high = index * 2;
-    let low = high + 1;
-    bytes[high] = (word / 256) as u8;
-    bytes[low] = (word % 256) as u8;
-}
-
 // The word to write at this word number, from the lists. `before` is the number of checked words before it.
 fn word_from(data: &[u16], others: &[u16], word: usize, before: usize) -> u16
     requires fit { Fit (lists «data».now others.now) }
@@ -71,7 +60,7 @@ fn put_words(image: &mut [u8], data: &[u16], others: &[u16])
 {
     let mut before = 0;
     for word in 0..WORDS {
-        put_word(image, word, word_from(data, others, word, before));
+        util::put_word(image, word, word_from(data, others, word, before));
         before = past(word, before);
     }
 }
