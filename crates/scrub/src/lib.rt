@@ -38,7 +38,7 @@ fn mend_word(image: &mut [u8], word: usize) -> Found
     };
     if read.stray {
         let code = writer::codeword(read.value);
-        writer::put_word(image, word, code);
+        util::put_word(image, word, code);
         return Found::Mended;
     }
     Found::Sound
