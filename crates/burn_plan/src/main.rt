@@ -5,81 +5,74 @@
 // `warning: the wanted card does not load` with number, place and value.
 #![tactic(auto)]
 
-ghost use Rattle.std.specs.Prelude.{◌≤◌};
-
-use burn::{Next, Step};
-use console::{put, tab_number};
+use burn::Step;
+use console::{Failure, Output};
 use map::{BASIC_RANGE, IMAGE_BYTES};
 use offsets::Offset;
 use refusal::{Refusal, Verdict};
+use std::fmt;
+use std::fmt::Write;
+use std::io::Stdin;
 
 // The largest number of steps in a plan: two for each of 814 words.
 const STEPS: u64 = 1628;
 
-// Writes the line of a step: the word, and its new value. Returns false if writing failed.
-fn step_line(step: Step) -> bool {
-    put(b"step") && tab_number(step.word as u64) && tab_number(step.value as u64) && put(b"\n")
+// Writes the line of a step: the word, and its new value.
+fn step_line(step: Step) -> fmt::Result {
+    writeln!(Output, "step\t{}\t{}", step.word, step.value)
 }
 
 // Writes the line of a refusal: its number, place and value.
-fn refused_line(refusal: Refusal) -> bool {
+fn refused_line(refusal: Refusal) -> fmt::Result {
     let told = refusal.told();
-    put(b"refused")
-        && tab_number(told.number)
-        && tab_number(told.place)
-        && tab_number(told.value)
-        && put(b"\n")
+    writeln!(
+        Output,
+        "refused\t{}\t{}\t{}",
+        told.number, told.place, told.value
+    )
 }
 
-fn end_line(steps: u64) -> bool {
-    put(b"end") && tab_number(steps) && put(b"\n")
+fn end_line(steps: u64) -> fmt::Result {
+    writeln!(Output, "end\t{steps}")
 }
 
-// The number of steps written, the refusal that stopped them, if any, and whether all writing succeeded.
-#[derive(Clone, Copy)]
+// The number of steps written, and the refusal that stopped them, if any.
+#[derive(Clone, Copy, Debug, PartialEq, Eq)]
 struct Plan {
     steps: u64,
     verdict: Verdict,
-    written: bool,
 }
 
-fn stopped(refusal: Refusal, steps: u64) -> Plan {
+fn planned(steps: u64) -> Plan {
     Plan {
         steps,
-        verdict: Verdict::Refused(refusal),
-        written: refused_line(refusal),
+        verdict: Ok(()),
     }
 }
 
-fn planned(steps: u64, written: bool) -> Plan {
-    Plan {
-        steps,
-        verdict: Verdict::Pass,
-        written,
-    }
-}
-
-// Burns until the wanted card is reached, the burn is refused or writing fails, and writes the step of each call.
-fn burn_all(present: &mut [u8], wanted: &[u8]) -> Plan {
-    let mut steps = 0;
-    while steps < STEPS {
-        let burnt = burn::burn(present, wanted);
-        let next = burnt.step;
-        match next {
-            Next::Stopped(refusal) => return stopped(refusal, steps),
-            Next::Reached => return planned(steps, true),
-            Next::Due(step) => {
-                if !step_line(step) {
-                    return planned(steps, false);
+// Burns until the wanted card is reached or the burn is refused, and writes the step of each call, or the refusal.
+fn burn_all(present: &mut [u8], wanted: &[u8]) -> Result<Plan, fmt::Error> {
+    for steps in 0..STEPS {
+        match burn::burn(present, wanted) {
+            Err(refusal) => {
+                refused_line(refusal)?;
+                return Ok(Plan {
+                    steps,
+                    verdict: Err(refusal),
+                });
+            }
+            Ok(burnt) => {
+                let Some(step) = burnt.step else {
+                    return Ok(planned(steps));
+                };
+                step_line(step)?;
+                if burnt.reached {
+                    return Ok(planned(steps + 1));
                 }
-            },
-        }
-        steps += 1;
-        if burnt.reached {
-            return planned(steps, true);
+            }
         }
     }
-    planned(steps, true)
+    Ok(planned(STEPS))
 }
 
 // Returns the verdict of loading a card.
@@ -89,7 +82,7 @@ fn loads(image: &[u8]) -> Verdict {
     let mut alpha = [0.0f32; 192];
     let mut k_v = [0.0f32; 192];
     let mut k_ta = [0.0f32; 192];
-    let loaded = eeprom::load(
+    eeprom::load(
         image,
         BASIC_RANGE,
         &mut offsets0,
@@ -97,43 +90,40 @@ fn loads(image: &[u8]) -> Verdict {
         &mut alpha,
         &mut k_v,
         &mut k_ta,
-    );
-    loaded.verdict
+    )?;
+    Ok(())
 }
 
 // Warns if the wanted card does not load. The burn is planned all the same: a card may be written in several rounds.
 fn warn(wanted: &[u8]) {
-    let verdict = loads(wanted);
-    let told = verdict.told();
-    if told.number == 0 {
-        return;
+    if let Err(refusal) = loads(wanted) {
+        let told = refusal.told();
+        console::say(format_args!(
+            "warning: the wanted card does not load: {} {} {}",
+            told.number, told.place, told.value
+        ));
     }
-    console::say(b"warning: the wanted card does not load:");
-    console::say_number(told.number);
-    console::say_number(told.place);
-    console::say_number(told.value);
-    console::say(b"\n");
 }
 
 // Writes the lines of the steps from one card to the other.
-fn plan_lines(present: &mut [u8], wanted: &[u8]) {
+fn plan_lines(present: &mut [u8], wanted: &[u8]) -> Result<(), Failure> {
     warn(wanted);
-    let plan = burn_all(present, wanted);
-    console::went(plan.written && end_line(plan.steps), plan.verdict);
+    let plan = burn_all(present, wanted)?;
+    end_line(plan.steps)?;
+    plan.verdict?;
+    Ok(())
 }
 
-fn main(rt: HostRuntime) {
+fn run(input: Stdin) -> Result<(), Failure> {
     let mut present = [0u8; IMAGE_BYTES];
     let mut wanted = [0u8; IMAGE_BYTES];
     let here = io::read_full(console::STDIN, &mut present);
-    if !console::whole(rt.stdin(), here, IMAGE_BYTES) {
-        console::failed_reading();
-        return;
-    }
+    console::whole(input, here, IMAGE_BYTES)?;
     let there = io::read_full(console::STDIN, &mut wanted);
-    if console::whole(rt.stdin(), there, IMAGE_BYTES) {
-        plan_lines(&mut present[..here], &wanted[..there]);
-    } else {
-        console::failed_reading();
-    }
+    console::whole(input, there, IMAGE_BYTES)?;
+    plan_lines(&mut present[..here], &wanted[..there])
+}
+
+fn main(rt: HostRuntime) {
+    console::end(run(rt.stdin()));
 }

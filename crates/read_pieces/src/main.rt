@@ -8,67 +8,83 @@
 // or `failed: writing`.
 #![tactic(auto)]
 
-ghost use Rattle.std.specs.Prelude.{◌≤◌, length};
-
-use console::{put, tab_number};
+use console::{Failure, Output};
+use eeprom::Loaded;
 use map::{BASIC_RANGE, IMAGE_BYTES, PIXELS};
 use offsets::Offset;
-use reader::{Answer, Image, Reading, Taken};
+use reader::{Image, Reading, Taken};
+use refusal::Refusal;
+use std::fmt;
+use std::fmt::Write;
+use std::io::Stdin;
 
-const SET: usize = 0xFFFD;
+// What two bytes say: the size of the piece that follows, or a command.
+#[derive(Clone, Copy, Debug, PartialEq, Eq)]
+enum Command {
+    Take(u16),
+    Finish,
+    Ask,
+    Set,
+}
 
-const ASKED: usize = 0xFFFE;
-
-const FINISHED: usize = 0xFFFF;
-
-// In place of a size: the input has ended.
-const ENDED: usize = 0x10000;
+impl From<u16> for Command {
+    fn from(word: u16) -> Command {
+        match word {
+            0xFFFF => Command::Finish,
+            0xFFFE => Command::Ask,
+            0xFFFD => Command::Set,
+            size => Command::Take(size),
+        }
+    }
+}
 
 // The basic range of a card, and the number of entries of each table.
-#[derive(Clone, Copy)]
+#[derive(Clone, Copy, Debug, PartialEq, Eq)]
 struct Settings {
     range: usize,
     table: usize,
 }
 
-// A card in progress, whether anything of it has come, the number of its lines written, and whether the last of them were written without failure.
+// A card in progress, whether anything of it has come, the number of its lines written, and its settings.
 #[derive(Clone, Copy)]
 struct Arrival {
     reading: Reading,
     begun: bool,
     lines: u64,
     settings: Settings,
-    written: bool,
 }
 
-fn next_card(written: bool) -> Arrival {
-    let reading = reader::new();
+fn next_card() -> Arrival {
     Arrival {
-        reading,
+        reading: reader::new(),
         begun: false,
         lines: 0,
         settings: Settings {
             range: BASIC_RANGE,
             table: PIXELS,
         },
-        written,
     }
 }
 
-fn one_more(n: u64) -> u64 {
-    std::num::wrapping_add_u64(n, 1)
-}
-
-// Returns the size of the next piece, a command, or `ENDED`.
-fn next_size() -> usize
-    ensures { result ≤ 65536 }
-{
+// Returns the next two bytes, unless the input ends before.
+fn next_two() -> Option<[u8; 2]> {
     let mut two = [0u8; 2];
     let n = io::read_full(console::STDIN, &mut two);
-    if n < 2 {
-        return ENDED;
-    }
-    util::big_endian(two[0], two[1]) as usize
+    if n < 2 { None } else { Some(two) }
+}
+
+fn next_command() -> Option<Command> {
+    let two = next_two()?;
+    Some(Command::from(u16::from_be_bytes(two)))
+}
+
+// Reads the basic range and the tables' length, a byte each, unless the input ends before.
+fn next_settings() -> Option<Settings> {
+    let [range, table] = next_two()?;
+    Some(Settings {
+        range: usize::from(range),
+        table: usize::from(table),
+    })
 }
 
 fn take(image: &mut Image, reading: Reading, piece: &[u8], settings: Settings) -> Taken {
@@ -77,7 +93,7 @@ fn take(image: &mut Image, reading: Reading, piece: &[u8], settings: Settings) -
     let mut alpha = [0.0f32; 192];
     let mut k_v = [0.0f32; 192];
     let mut k_ta = [0.0f32; 192];
-    let n = util::least(settings.table, PIXELS);
+    let n = settings.table.min(PIXELS);
     reader::take(
         image,
         reading,
@@ -97,127 +113,110 @@ fn take_next(image: &mut Image, reading: Reading, room: &mut [u8], settings: Set
     take(image, reading, &room[..n], settings)
 }
 
-// Reads the basic range and the tables' length, a byte each.
-fn next_settings() -> Settings {
-    let both = next_size();
-    Settings {
-        range: both / 256,
-        table: both % 256,
+fn kept_line(reading: Reading) -> fmt::Result {
+    write!(Output, "kept\t{}", reading.count)?;
+    if let Some(loaded) = reading.answer {
+        board_lines::answer(loaded)?;
     }
+    Output.write_str("\n")
 }
 
-// Whether a piece was refused while the reading goes on.
-fn passed_over(taken: Taken) -> bool {
-    let said = taken.answer;
-    let reading = taken.reading;
-    let now = reading.answer;
-    now.more && !said.more
+fn taken_line(loaded: Result<Loaded, Refusal>) -> fmt::Result {
+    Output.write_str("taken")?;
+    board_lines::answer(loaded)?;
+    Output.write_str("\n")
 }
 
-// Writes the line `kept`. This and the next two functions return false if writing failed.
-fn kept_line(reading: Reading) -> bool {
-    let answer = reading.answer;
-    let loaded = answer.loaded;
-    put(b"kept")
-        && tab_number(reading.count as u64)
-        && (answer.more || board_lines::answer(loaded))
-        && put(b"\n")
-}
-
-fn taken_line(answer: Answer) -> bool {
-    put(b"taken") && board_lines::answer(answer.loaded) && put(b"\n")
-}
-
-fn finish(arrival: Arrival) -> bool {
-    let reading = reader::finished(arrival.reading);
-    let answer = reading.answer;
-    let loaded = answer.loaded;
-    board_lines::load_line(loaded) && board_lines::end_line(one_more(arrival.lines))
-}
-
-// Returns the card's state after a piece.
-fn after(arrival: Arrival, taken: Taken) -> Arrival {
-    let reading = taken.reading;
-    let settings = arrival.settings;
-    let lines = arrival.lines;
-    if passed_over(taken) {
-        return Arrival {
-            reading,
-            begun: true,
-            lines: one_more(lines),
-            settings,
-            written: taken_line(taken.answer),
-        };
+// Writes the lines of a card that has ended, which always has a result.
+fn finish(arrival: Arrival) -> fmt::Result {
+    if let Some(loaded) = reader::finished(arrival.reading).answer {
+        board_lines::load_line(loaded)?;
     }
-    Arrival {
+    board_lines::end_line(arrival.lines.wrapping_add(1))
+}
+
+// Returns the card's state after a piece. A piece that is refused while the reading goes on has a line.
+fn after(arrival: Arrival, taken: Taken) -> Result<Arrival, fmt::Error> {
+    let reading = taken.reading;
+    let mut lines = arrival.lines;
+    if let (None, Some(loaded)) = (reading.answer, taken.answer) {
+        taken_line(loaded)?;
+        lines = lines.wrapping_add(1);
+    }
+    Ok(Arrival {
         reading,
         begun: true,
         lines,
-        settings,
-        written: true,
-    }
+        settings: arrival.settings,
+    })
 }
 
-// Does what the size says, and returns the card's state after it.
-fn step(image: &mut Image, buffer: &mut [u8], arrival: Arrival, size: usize) -> Arrival
-    requires { size ≤ length buffer.old }
-{
-    if size == FINISHED {
-        return next_card(finish(arrival));
-    }
-    let reading = arrival.reading;
-    let lines = arrival.lines;
-    let settings = arrival.settings;
-    if size == ASKED {
-        return Arrival {
-            reading,
-            begun: true,
-            lines: one_more(lines),
-            settings,
-            written: kept_line(reading),
-        };
-    }
-    if size == SET {
-        return Arrival {
+// Does what the command says, and returns the card's state after it.
+fn step(
+    image: &mut Image,
+    buffer: &mut [u8; 65536],
+    arrival: Arrival,
+    command: Command,
+) -> Result<Arrival, fmt::Error> {
+    let Arrival {
+        reading,
+        lines,
+        settings,
+        ..
+    } = arrival;
+    match command {
+        Command::Take(size) => {
+            let room = &mut buffer[..usize::from(size)];
+            after(arrival, take_next(image, reading, room, settings))
+        }
+        Command::Finish => {
+            finish(arrival)?;
+            Ok(next_card())
+        }
+        Command::Ask => {
+            kept_line(reading)?;
+            Ok(Arrival {
+                reading,
+                begun: true,
+                lines: lines.wrapping_add(1),
+                settings,
+            })
+        }
+        Command::Set => Ok(Arrival {
             reading,
             begun: true,
             lines,
-            settings: next_settings(),
-            written: true,
-        };
+            settings: next_settings().unwrap_or(settings),
+        }),
     }
-    after(
-        arrival,
-        take_next(image, reading, &mut buffer[..size], settings),
-    )
 }
 
-// Reads at most `most` pieces and commands, until the input ends or writing fails. Returns whether all writing succeeded.
-fn run(most: u64) -> bool {
+// Reads pieces and commands until the input ends.
+fn read_pieces() -> fmt::Result {
     let mut image = [0u8; IMAGE_BYTES];
     let mut buffer = io::large_buffer();
-    let mut arrival = next_card(true);
-    for _ in 0..most {
-        let size = next_size();
-        if size == ENDED {
+    let mut arrival = next_card();
+    for _ in 0..u64::MAX {
+        let Some(command) = next_command() else {
             break;
-        }
-        arrival = step(&mut image, &mut buffer, arrival, size);
-        if !arrival.written {
-            return false;
-        }
+        };
+        arrival = step(&mut image, &mut buffer, arrival, command)?;
     }
     if arrival.begun {
-        return finish(arrival);
+        finish(arrival)?;
     }
-    true
+    Ok(())
+}
+
+fn run(input: Stdin) -> Result<(), Failure> {
+    read_pieces()?;
+    if console::ended(input) {
+        Ok(())
+    } else {
+        Err(Failure::Reading)
+    }
 }
 
 fn main(rt: HostRuntime) {
-    let written = run(0xFFFFFFFFFFFFFFFF);
-    if !written {
-        console::failed_writing();
-    } else if !console::ended(rt.stdin()) {
-        console::failed_reading();
-    }
+    console::end(run(rt.stdin()));
 }
