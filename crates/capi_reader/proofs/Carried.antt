@@ -7,11 +7,11 @@ use mathlib.Core.List.{List, [], ◌∷◌, ◌++◌, append-nil, append_assoc, 
 use native.Mathlib.Omega.{arith}
 use lib.ListN.{length}
 use borrow.Author.Tests.{eq-eqb, ne_eqb}
+use Rattle.std.specs.Prelude.{is_none}
 use Rattle.map.specs.Map.{image_bytes}
 use Rattle.eeprom.specs.Load.{Tables}
-use Rattle.reader.specs.declared.Answer.{Answer}
 use Rattle.reader.specs.declared.Reading.{Reading}
-use Rattle.reader.specs.Calls.{more, takes, finishes, Call, Event, took, finished, State, calling, leaves, after_calls, begun}
+use Rattle.reader.specs.Calls.{Answer, more, takes, finishes, Call, Event, took, finished, State, calling, leaves, after_calls, begun}
 use Rattle.reader.proofs.Ends.{reads, any-state}
 use Rattle.capi_reader.specs.declared.Reader.{Reader}
 use Rattle.capi_reader.specs.Border.{ended_of, reader_out, reading_in, After, after, after_out, takes_out, finishes_out}
@@ -19,7 +19,7 @@ use Rattle.capi_reader.specs.Laws.{StateOut, state_out, calling_out, leaves_out,
 
 -- while more bytes are wanted, a reading is determined by its count
 abbrev Plain : Reading → Type 0
-Plain r = r.answer.more ≡ true → r.answer ≡ more
+Plain r = is_none r.answer ≡ true → r.answer ≡ more
 
 count-only : (r : Reading) → r.answer ≡ more → reading_in r.count ≡ r
 count-only r e = ap (λ (a : Answer). record { count = r.count; answer = a }) (sym e)
@@ -49,25 +49,25 @@ one-ends : (more : Bool) → more ≡ false → ended_of more ≡ 0 → ⊥
 one-ends more e z = let q : ◌≡◌ {A = ℕ} 1 0 = sym (ap ended_of e) ∙ z in omega arith
 
 module _ (s : State) (p : Plain s.reading) where
-  take_by : (c : Call) (b : Bool) → s.reading.answer.more ≡ b → calling_out (state_out s) c ≡ after_out (calling s c)
+  take_by : (c : Call) (b : Bool) → is_none s.reading.answer ≡ b → calling_out (state_out s) c ≡ after_out (calling s c)
   take_by c true e =
       goes_on s.image (reader_out s.reading) c.piece c.range c.lent (ap ended_of e)
       ∙ ap (λ (r : Reading). after_out (takes s.image r c.piece c.range c.lent)) (count-only s.reading (p e))
   take_by c false e =
-      again s.image (reader_out s.reading) c.piece c.range c.lent (one-ends s.reading.answer.more e)
+      again s.image (reader_out s.reading) c.piece c.range c.lent (one-ends (is_none s.reading.answer) e)
       ∙ sym (ap after_out ((any-state s).ended c e))
 
-  finish-by : (b : Bool) → s.reading.answer.more ≡ b → finishes_out (reader_out s.reading) ≡ reader_out (finishes s.reading)
+  finish-by : (b : Bool) → is_none s.reading.answer ≡ b → finishes_out (reader_out s.reading) ≡ reader_out (finishes s.reading)
   finish-by true e =
       finishes-on (reader_out s.reading) (ap ended_of e) ∙ ap (λ (r : Reading). reader_out (finishes r)) (count-only s.reading (p e))
   finish-by false e =
-      finished-again (reader_out s.reading) (one-ends s.reading.answer.more e) ∙ sym (ap reader_out ((any-state s).late e))
+      finished-again (reader_out s.reading) (one-ends (is_none s.reading.answer) e) ∙ sym (ap reader_out ((any-state s).late e))
 
   one-take : (c : Call) → calling_out (state_out s) c ≡ after_out (calling s c)
-  one-take c = take_by c s.reading.answer.more refl
+  one-take c = take_by c (is_none s.reading.answer) refl
 
   one-finish : finishes_out (reader_out s.reading) ≡ reader_out (finishes s.reading)
-  one-finish = finish-by s.reading.answer.more refl
+  one-finish = finish-by (is_none s.reading.answer) refl
 
   one-call : (k : Event) → leaves_out (state_out s) k ≡ state_out (leaves s k)
   one-call (took c) = ap (λ (a : After). record { image = a.image; reader = a.taken.reader }) (one-take c)

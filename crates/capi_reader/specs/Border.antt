@@ -1,19 +1,26 @@
 -- A reader's state and results as C has them. Assumes nothing.
-use Rattle.std.specs.Prelude.{ℕ, Bool, List, eqb}
+use Rattle.std.specs.Prelude.{ℕ, Bool, List, eqb, is_none, unwrap_or, Result, Ok}
 use Rattle.lists.specs.Pick.{pick}
+use Rattle.refusal.specs.declared.Refusal.{Refusal}
+use Rattle.card.specs.Card.{no_mending}
+use Rattle.calibration.specs.Calibration.{no_calibration}
+use Rattle.eeprom.specs.declared.Loaded.{Loaded}
 use Rattle.eeprom.specs.Load.{Tables}
-use Rattle.reader.specs.declared.Answer.{Answer}
 use Rattle.reader.specs.declared.Reading.{Reading}
 use Rattle.reader.specs.Calls as inner
-use Rattle.reader.specs.Calls.{more, takes, finishes}
+use Rattle.reader.specs.Calls.{Answer, more, takes, finishes}
 use Rattle.capi_cards.specs.declared.Load.{Load}
 use Rattle.capi_cards.specs.Border.{loaded_out}
 use Rattle.capi_reader.specs.declared.Reader.{Reader}
 use Rattle.capi_reader.specs.declared.Taken.{Taken}
 
+-- what stands for a result while more bytes are wanted: no refusal, no mended word and a record of zeros
+abbrev pub nothing : Result Loaded Refusal
+nothing = Ok (record { calibration = no_calibration; mending = no_mending })
+
 -- the result of a call
 abbrev pub answer_out : Answer → Load
-answer_out a = loaded_out a.loaded
+answer_out a = loaded_out (unwrap_or a nothing)
 
 -- the flag `ended`: 1 if no more bytes are wanted
 abbrev pub ended_of : Bool → ℕ
@@ -21,7 +28,7 @@ ended_of more = pick more 0 1
 
 -- a reading as C has it
 abbrev pub reader_out : Reading → Reader
-reader_out r = record { count = r.count; ended = ended_of r.answer.more; answer = answer_out r.answer }
+reader_out r = record { count = r.count; ended = ended_of (is_none r.answer); answer = answer_out r.answer }
 
 -- a reading that has not ended, with `count` bytes kept
 abbrev pub reading_in : ℕ → Reading

@@ -7,6 +7,7 @@ ghost use Rattle.reader.specs.Calls.{start, finishes};
 ghost use Rattle.capi_reader.specs.Border.{ended_of, answer_out, reader_out, reading_in, after, takes_out, finishes_out};
 
 use capi_cards::Load;
+use eeprom::Loaded;
 use offsets::Offset;
 use reader::{Answer, Image, Reading};
 
@@ -29,24 +30,15 @@ pub struct Taken {
     pub answer: Load,
 }
 
-// Returns a reader's result as C has it.
+// Returns a reader's answer as C has it: while more bytes are wanted, number 0, no mended word and a record of zeros.
 fn answer_out(answer: Answer) -> Load
     ensures { result ≡ answer_out answer }
 {
-    let loaded = answer.loaded;
-    let verdict = loaded.verdict;
-    let inner = loaded.calibration;
-    let mending = loaded.mending;
-    let told = verdict.told();
-    let calibration = capi_record::record_out(inner);
-    Load {
-        number: told.number,
-        place: told.place,
-        value: told.value,
-        mended: mending.count,
-        last_mended: mending.last,
-        calibration,
-    }
+    let loaded = answer.unwrap_or(Ok(Loaded {
+        calibration: calibration::no_calibration(),
+        mending: card::no_mending(),
+    }));
+    capi_cards::load_out(loaded)
 }
 
 // Returns the flag `ended`: 0 if more bytes are wanted.
@@ -63,7 +55,7 @@ fn reader_out(reading: Reading) -> Reader
     let answer = reading.answer;
     Reader {
         count: reading.count,
-        ended: flag(answer.more),
+        ended: flag(answer.is_none()),
         answer: answer_out(answer),
     }
 }
@@ -72,9 +64,10 @@ fn reader_out(reading: Reading) -> Reader
 fn reading_at(count: usize) -> Reading
     ensures { result ≡ reading_in count }
 {
-    let fresh = reader::new();
-    let answer = fresh.answer;
-    Reading { count, answer }
+    Reading {
+        count,
+        answer: None,
+    }
 }
 
 // Returns a reader before its first byte.
