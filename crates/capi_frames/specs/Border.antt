@@ -1,12 +1,12 @@
 -- The arguments that C passes to a frame call, and the result that it gets. Assumes nothing.
-use Rattle.std.specs.Prelude.{◌≡◌, eqb}
+use Rattle.std.specs.Prelude.{◌≡◌, eqb, Result, Ok, Err}
 use Rattle.lists.specs.Pick.{pick}
 use Rattle.refusal.specs.Refusal.{told_of}
+use Rattle.refusal.specs.declared.Refusal.{Refusal}
 use Rattle.formulas.specs.declared.RamData.{RamData}
 use Rattle.formulas.specs.declared.Reflected.TheVariants.{Given, Ambient}
 use Rattle.formulas.specs.declared.Settings as inner
 use Rattle.frames.specs.declared.Frame.{Frame}
-use Rattle.frames.specs.declared.Frame.TheVariants.{Done, Refused}
 use Rattle.calculations.specs.declared.Input as frame
 use Rattle.capi_record.specs.Record.{subpage_of}
 use Rattle.capi_frames.specs.declared.Answer.{Answer}
@@ -43,12 +43,12 @@ input_in f = record { settings = settings_in f.settings; ram = ram_in f.ram; sub
 -- ---- the result
 
 -- the result of a frame call as C has it
-abbrev pub frame_out : Frame → Answer
-frame_out (Done t_a n) = record { number = 0; place = 0; value = 0; lost = n; t_a = t_a }
-frame_out (Refused r) = record { number = (told_of r).number; place = (told_of r).place; value = (told_of r).value; lost = 0; t_a = 0 }
+abbrev pub frame_out : Result Frame Refusal → Answer
+frame_out (Ok f) = record { number = 0; place = 0; value = 0; lost = f.lost; t_a = f.t_a }
+frame_out (Err r) = record { number = (told_of r).number; place = (told_of r).place; value = (told_of r).value; lost = 0; t_a = 0 }
 
 -- some inner result meets the inner call's promise, and C's result is that one, converted
-pub record Carried (promise : Frame → Type 0) (r : Answer) : Type 0 where
-  pub inner : Frame
+pub record Carried (promise : Result Frame Refusal → Type 0) (r : Answer) : Type 0 where
+  pub inner : Result Frame Refusal
   pub kept : promise inner
   pub out : r ≡ frame_out inner

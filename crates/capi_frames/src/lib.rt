@@ -12,6 +12,7 @@ use capi_record::Record;
 use formulas::{RamData, Reflected};
 use frames::Frame;
 use offsets::Offset;
+use refusal::Refusal;
 
 // The sensor readings of a frame that are not pixels.
 #[repr(C)]
@@ -25,7 +26,7 @@ pub struct Ram {
 }
 
 // The numbers that the caller chooses. If `reflected_given` is 0, the reflected temperature is the ambient temperature minus `self_heating`, and `reflected`
-// is not read.
+// is not read: C has no enum whose variants hold values.
 #[repr(C)]
 #[derive(Clone, Copy)]
 pub struct Settings {
@@ -48,7 +49,7 @@ pub struct Input {
 }
 
 // The result of a frame call: number, place and value of the refusal, all 0 for none; the number of pixels that this call wrote as NaN (0x7FC00000), and the
-// bits of the ambient temperature, both 0 after a refusal.
+// bits of the ambient temperature, both 0 after a refusal. C has no `Result`.
 #[repr(C)]
 #[derive(Clone, Copy)]
 pub struct Answer {
@@ -106,18 +107,18 @@ pub fn input_in(input: Input) -> calculations::Input
 }
 
 // Returns a frame's result as C has it.
-pub fn frame_out(frame: Frame) -> Answer
+pub fn frame_out(frame: Result<Frame, Refusal>) -> Answer
     ensures { result ≡ frame_out frame }
 {
     match frame {
-        Frame::Done { t_a, lost } => Answer {
+        Ok(Frame { t_a, lost }) => Answer {
             number: 0,
             place: 0,
             value: 0,
             lost,
             t_a,
         },
-        Frame::Refused(refusal) => {
+        Err(refusal) => {
             let told = refusal.told();
             Answer {
                 number: told.number,
