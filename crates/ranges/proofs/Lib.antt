@@ -1,5 +1,4 @@
--- Steps (the coefficients step by step) and Zero (no coefficient is divided by a zero) are laws that callers cite. Climb and Found are for the proofs of the code.
+-- Steps (the coefficients step by step) and Zero (no coefficient is divided by a zero) are laws that callers cite. Climb is for the proofs of the code.
 pub mod Steps
 pub mod Zero
 mod Climb
-mod Found

@@ -1,10 +1,11 @@
 -- `ranges::first_unrisen` meets its contract: in each iteration every corner from the second up to this one is above the one before it. Assumes nothing.
-use Rattle.std.proofs.Common.{◌≡◌, ℕ, ◌-◌, List, ℤ, sym, refl, ◌∙◌, ap₂, arith, to_z-of_z, w16, to_z, of_z, rules}
+use Rattle.std.proofs.Common.{◌≡◌, ℕ, ◌-◌, List, ℤ, sym, refl, ap, ◌∙◌, ap₂, arith, to_z-of_z, w16, to_z, of_z, rules}
 use Rattle.std.specs.Prelude.{int_le}
 use Rattle.lists.specs.First.{first_from}
 use Rattle.lists.proofs.First as first
 use Rattle.ranges.specs.Corners.{corner_at, unrisen}
-use Rattle.ranges.proofs.Found.{some_below, none_below}
+use Rattle.util.specs.Found.{found_below}
+use Rattle.util.proofs.Found.{below-some, below-none}
 use Rattle.ranges.proofs.first_unrisen.Invariants.{stands}
 use Rattle.ranges.proofs.first_unrisen.Goals as goal
 
@@ -21,7 +22,8 @@ returns-then-not_above c =
     let own : to_z w16 (of_z w16 (corner_at c.args.corners.now l.range)) ≡ corner_at c.args.corners.now l.range = to_z-of_z {w = w16} (search rules) in
     let before : to_z w16 (of_z w16 (corner_at c.args.corners.now (l.range - 1))) ≡ corner_at c.args.corners.now (l.range - 1) = to_z-of_z {w = w16} (search rules) in
     let t : stands c.args.corners.now l.range ≡ c.not_above.result = sym (c.not_above.ensures ∙ ap₂ int_le own before) in
-    some_below _ _ _ (sym l.invariant ∙ first.found (stands c.args.corners.now) l.range _ (search rules) (t ∙ c.if-not_above.true)) (omega arith)
+    let e = sym (first.found (stands c.args.corners.now) l.range _ (search rules) (t ∙ c.if-not_above.true)) ∙ l.invariant in
+    sym (below-some c.args.ranges l.range (omega arith)) ∙ ap (found_below c.args.ranges) e
 
 pub loop-range-preserved : goal.loop-range-preserved
 loop-range-preserved c =
@@ -37,4 +39,4 @@ returns c =
     let n = c.args.ranges in
     let e : l.range ≡ n = omega arith in
     let end = sym (rw e at l.invariant) ∙ first.ended (stands c.args.corners.now) n in
-    none_below n _ (omega (arith, end))
+    sym (below-none n n (omega arith)) ∙ ap (found_below n) (sym end)

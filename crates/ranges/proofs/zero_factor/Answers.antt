@@ -1,11 +1,12 @@
 -- `ranges::zero_factor` meets its contract: in each iteration no growth from this range up to the basic one is zero. Assumes nothing.
-use Rattle.std.proofs.Common.{◌≡◌, ℕ, suc, Bool, true, false, List, ℤ, sym, refl, ap, ◌∙◌, arith}
+use Rattle.std.proofs.Common.{◌≡◌, ℕ, suc, ◌-◌, Bool, true, false, List, ℤ, sym, refl, ap, ◌∙◌, arith}
 use lib.Ieee.{Float}
 use Rattle.lists.specs.Pick.{pick}
 use Rattle.lists.specs.Last.{last_below}
 use Rattle.floats.specs.Floats.{is_zero}
 use Rattle.ranges.specs.Coefficients.{growth, zero_factor}
-use Rattle.ranges.proofs.Found.{some_below, none_below}
+use Rattle.util.specs.Found.{found_below}
+use Rattle.util.proofs.Found.{below-some, below-none}
 use Rattle.ranges.proofs.zero_factor.Goals as goal
 
 -- the search either finds the range below or goes on from there
@@ -27,7 +28,8 @@ found n t k at m b g o e h s i =
 
 pub returns-then-growth : goal.returns-then-growth
 returns-then-growth c =
-    some_below _ _ _ (sym (found c.args.ranges _ _ c.loop-at.at _ _ _ true c.if-growth.true c.growth.ensures (omega arith) c.loop-at.invariant)) (omega arith)
+    let e = found c.args.ranges _ _ c.loop-at.at (c.loop-at.at - 1) _ _ true c.if-growth.true c.growth.ensures (omega arith) c.loop-at.invariant in
+    sym (below-some c.args.ranges (c.loop-at.at - 1) (omega arith)) ∙ ap (found_below c.args.ranges) e
 
 pub loop-at-preserved : goal.loop-at-preserved
 loop-at-preserved c = found c.args.ranges _ _ c.loop-at.at _ _ _ false c.if-growth.false c.growth.ensures (omega arith) c.loop-at.invariant
@@ -36,4 +38,4 @@ pub returns : goal.returns
 returns c =
     let e : c.loop-at.at ≡ 0 = omega arith in
     let none = sym (none _ _ _) ∙ (rw e at c.loop-at.invariant) in
-    none_below _ _ (omega (arith, none))
+    sym (below-none _ _ (omega arith)) ∙ ap (found_below c.args.ranges) none
