@@ -5,6 +5,8 @@ use mathlib.Core.List.{List}
 use lib.IntN.{ℤ}
 use lib.ListN.{length}
 use lib.Ieee.{Float, nan}
+use Rattle.std.specs.Prelude.{Result}
+use Rattle.refusal.specs.declared.Refusal.{Refusal}
 use Rattle.lists.specs.Each.{Each}
 use Rattle.formulas.specs.declared.Constants.{Constants}
 use Rattle.pixels.specs.Blocks.{is}
@@ -37,7 +39,7 @@ call f compensation w k a n = record {
 
 pub makes : (c : Calibration) (f : Input) (compensation : Float) (w : Wanted) (o : List ℤ) (alpha t : List Float) (p m : List ℕ) {v access : List Float} {k : Constants} {a : Float} {n : ℕ}
     → Each (is (k_v_at c.k_v)) nan v two_rows → Each (is (access_at f.pattern c.access_pattern)) nan access two_rows
-    → k ≡ constants_of c f.subpage → a ≡ access_cp_of f.pattern f.subpage c.access_cp → n ≡ min (length o) (length t) → {d d' : List ℕ} {r : Frame}
+    → k ≡ constants_of c f.subpage → a ≡ access_cp_of f.pattern f.subpage c.access_cp → n ≡ min (length o) (length t) → {d d' : List ℕ} {r : Result Frame Refusal}
     → Makes w (any_pass (any_ir (call f compensation w k a n) p o t v access m) (ranges_of c) alpha) d d' r
     → Makes w (pass_call c (ir_call c f compensation o t p m) alpha) d d' r
 makes c f compensation w o alpha t p m {v} {access} {k} {a} {n} rows terms e g h {d} {d'} {r} made =

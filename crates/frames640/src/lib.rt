@@ -1,6 +1,6 @@
 // The MLX90640's frame calls: pixels to infrared, infrared to temperature, both in one pass, and the second pass. Each call that takes pixels has a second
 // form, which takes a filter's average. All of them pass the record's numbers for the subpage and the tables to the calls of `frames`, which both cameras
-// share.
+// share. The lent tables stay slices of their own, and no struct: that is the form that the documents give these calls.
 #![tactic(auto)]
 
 ghost use Rattle.std.specs.Prelude.{◌≡◌, min, ◌<◌, pos, length, get_or};
@@ -10,10 +10,10 @@ ghost use Rattle.frames.specs.Inner.{Makes};
 ghost use Rattle.frames640.specs.Frames.{constants_of, access_cp_of, ir_call, to_call, pass_call};
 
 use camera::Subpage;
-use filter::Steadied;
 use formulas::{Constants, RamData, Settings};
 use frames::{Call, Frame, Wanted};
 use record640::{Calibration, RANGES};
+use refusal::Refusal;
 use rows640::{Pattern, TWO_ROWS};
 
 // The number of blocks of 32 pixels in a frame. A block is a row.
@@ -28,11 +28,11 @@ pub struct Input {
     pub pattern: Pattern,
 }
 
-// The same inputs, and what the subpage's filter returned for the compensation pixel.
+// The same inputs, and the average of the subpage's filter for the compensation pixel; `None` while there is none.
 #[derive(Clone, Copy)]
 pub struct FilteredInput {
     pub input: Input,
-    pub compensation: Steadied,
+    pub compensation: Option<f32>,
 }
 
 // Returns the entry of subpage `number`.
@@ -93,7 +93,7 @@ fn from_pixels(
     pixels: &[u8],
     mask: &[u8],
     destination: &mut [u32],
-) -> Frame
+) -> Result<Frame, Refusal>
     ensures { Makes wanted (pass_call calibration (ir_call calibration input compensation offsets.now k_ta.now pixels.now mask.now) alpha.now)
         destination.old destination.new result }
 {
@@ -149,7 +149,7 @@ pub fn raw_ir_to_temperatures(
     alpha: &[f32],
     mask: &[u8],
     destination: &mut [u32],
-) -> Frame
+) -> Result<Frame, Refusal>
     ensures { Temperatures (to_call calibration settings subpage t_a alpha.now mask.now)
         destination.old destination.new result }
 {
@@ -176,7 +176,7 @@ pub fn raw_pixels_to_ir_data(
     pixels: &[u8],
     mask: &[u8],
     destination: &mut [u32],
-) -> Frame
+) -> Result<Frame, Refusal>
     ensures { Infrareds (ir_call calibration input (own_reading input.ram) offsets.now k_ta.now pixels.now mask.now)
         destination.old destination.new result }
 {
@@ -205,7 +205,7 @@ pub fn filtered_pixels_to_ir_data(
     pixels: &[u8],
     mask: &[u8],
     destination: &mut [u32],
-) -> Frame
+) -> Result<Frame, Refusal>
     ensures { Infrareds (ir_call calibration filtered.input (steadied filtered.compensation filtered.input.ram) offsets.now k_ta.now pixels.now mask.now)
         destination.old destination.new result }
 {
@@ -237,7 +237,7 @@ pub fn raw_pixels_to_temperatures(
     pixels: &[u8],
     mask: &[u8],
     destination: &mut [u32],
-) -> Frame
+) -> Result<Frame, Refusal>
     ensures { Passes (pass_call calibration (ir_call calibration input (own_reading input.ram) offsets.now k_ta.now pixels.now mask.now) alpha.now)
         destination.old destination.new result }
 {
@@ -267,7 +267,7 @@ pub fn filtered_pixels_to_temperatures(
     pixels: &[u8],
     mask: &[u8],
     destination: &mut [u32],
-) -> Frame
+) -> Result<Frame, Refusal>
     ensures { Passes (pass_call calibration (ir_call calibration filtered.input (steadied filtered.compensation filtered.input.ram) offsets.now k_ta.now pixels.now mask.now) alpha.now)
         destination.old destination.new result }
 {
@@ -299,7 +299,7 @@ pub fn raw_pixels_to_ranged_temperatures(
     pixels: &[u8],
     mask: &[u8],
     destination: &mut [u32],
-) -> Frame
+) -> Result<Frame, Refusal>
     ensures { RangedPasses (pass_call calibration (ir_call calibration input (own_reading input.ram) offsets.now k_ta.now pixels.now mask.now) alpha.now)
         destination.old destination.new result }
 {
@@ -329,7 +329,7 @@ pub fn filtered_pixels_to_ranged_temperatures(
     pixels: &[u8],
     mask: &[u8],
     destination: &mut [u32],
-) -> Frame
+) -> Result<Frame, Refusal>
     ensures { RangedPasses (pass_call calibration (ir_call calibration filtered.input (steadied filtered.compensation filtered.input.ram) offsets.now k_ta.now pixels.now mask.now) alpha.now)
         destination.old destination.new result }
 {
