@@ -13,10 +13,10 @@ ghost use Rattle.capi_filter.specs.Border.{average_out, steadied_in, filtered_in
 use calculations::FilteredInput;
 use capi_frames::{Answer, Input};
 use capi_record::Record;
-use filter::{Filter, Steadied};
+use filter::Filter;
 use offsets::Offset;
 
-// What a filter returns: the average of the last 16 readings with `ready` 1, or +0 with `ready` 0 if there are fewer than 16.
+// What a filter returns: the average of the last 16 readings with `ready` 1, or +0 with `ready` 0 if there are fewer than 16. C has no `Option`.
 #[repr(C)]
 #[derive(Clone, Copy)]
 pub struct Average {
@@ -49,15 +49,15 @@ pub extern "C" fn loamchalice_filter_push(filter: Filter, reading: i16) -> Filte
 }
 
 // Returns what a filter returned, as C has it.
-fn average_out(steadied: Steadied) -> Average
+fn average_out(steadied: Option<f32>) -> Average
     ensures { result ≡ average_out steadied }
 {
     match steadied {
-        Steadied::NotYet => Average {
+        None => Average {
             average: 0.0,
             ready: 0,
         },
-        Steadied::Average(average) => Average { average, ready: 1 },
+        Some(average) => Average { average, ready: 1 },
     }
 }
 
@@ -69,14 +69,14 @@ pub extern "C" fn loamchalice_filter_average(filter: Filter) -> Average
     average_out(filter::average(filter))
 }
 
-// Returns what a filter returned, from C's: `ready` 0 is `NotYet`.
-pub fn steadied_in(average: Average) -> Steadied
+// Returns what a filter returned, from C's: `ready` 0 is `None`.
+pub fn steadied_in(average: Average) -> Option<f32>
     ensures { result ≡ steadied_in average }
 {
     if average.ready == 0 {
-        Steadied::NotYet
+        None
     } else {
-        Steadied::Average(average.average)
+        Some(average.average)
     }
 }
 
