@@ -20,18 +20,20 @@ pub struct Load640 {
 }
 
 // The result of a load as C has it.
-fn loaded_out(answer: Result<Calibration, Refusal>) -> Load640
-    ensures { result ≡ loaded_out answer }
-{
-    let (told, calibration) = match answer {
-        Ok(calibration) => (refusal::verdict_told(Ok(())), calibration),
-        Err(refusal) => (refusal.told(), record640::no_calibration()),
-    };
-    Load640 {
-        number: told.number,
-        place: told.place,
-        value: told.value,
-        calibration: capi_record640::record_out(calibration),
+impl From<Result<Calibration, Refusal>> for Load640 {
+    ghost from_gives = { λ answer result. result ≡ loaded_out answer };
+
+    fn from(answer: Result<Calibration, Refusal>) -> Load640 {
+        let (told, calibration) = match answer {
+            Ok(calibration) => (refusal::verdict_told(Ok(())), calibration),
+            Err(refusal) => (refusal.told(), record640::no_calibration()),
+        };
+        Load640 {
+            number: told.number,
+            place: told.place,
+            value: told.value,
+            calibration: capi_record640::record_out(calibration),
+        }
     }
 }
 
@@ -48,5 +50,5 @@ pub extern "C" fn loamchalice_mlx90640_load(
     ensures { Loading image.now basic_range (tables offsets.old alpha.old k_ta.old)
         (tables offsets.new alpha.new k_ta.new) result }
 {
-    loaded_out(load640::load(image, basic_range, offsets, alpha, k_ta))
+    load640::load(image, basic_range, offsets, alpha, k_ta).into()
 }
