@@ -10,6 +10,7 @@ use refusal::Refusal;
 
 // The result of a burning call: number, place and value of the refusal, all 0 for none; the step's word and its new value, 832 and 0 if there is no step; and
 // `reached`, 1 if the wanted image is reached, else 0.
+// Plain numbers in place of a Result: the C interface needs it.
 #[repr(C)]
 #[derive(Clone, Copy)]
 pub struct Burn {

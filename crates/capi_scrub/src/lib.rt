@@ -6,6 +6,7 @@ ghost use Rattle.capi_scrub.specs.Scrubbing.{Scrubbing};
 
 // The result of a scrub: number, place and value of the refusal, all 0 for none; the number of words that it changed, and the number of damaged words, which
 // are unchanged; both 0 after a refusal.
+// Plain numbers in place of a Result: the C interface needs it.
 #[repr(C)]
 #[derive(Clone, Copy)]
 pub struct Scrub {
