@@ -1,7 +1,7 @@
 -- The arguments that C passes to an MLX90640's frame call, and the result of its mask call. Assumes nothing.
-use Rattle.std.specs.Prelude.{ℕ, ◌≡◌, List, eqb}
+use Rattle.std.specs.Prelude.{ℕ, ◌≡◌, List, eqb, ⊤, Result}
 use Rattle.lists.specs.Pick.{pick}
-use Rattle.refusal.specs.declared.Verdict.{Verdict}
+use Rattle.refusal.specs.declared.Refusal.{Refusal}
 use Rattle.rows640.specs.declared.Pattern.{Pattern}
 use Rattle.rows640.specs.declared.Pattern.TheVariants.{Chess, Interleave}
 use Rattle.rows640.specs.Mask.{Masks}
@@ -22,6 +22,6 @@ input_in f = record { settings = settings_in f.settings; ram = ram_in f.ram; sub
 
 -- some inner verdict meets `Masks` for the subpage, the pattern and the mask before and after; and C's result is that one, converted
 pub record Masking (subpage : ℕ) (p : Pattern) (before after : List ℕ) (r : Outcome) : Type 0 where
-  pub inner : Verdict
+  pub inner : Result ⊤ Refusal
   pub masks : Masks subpage p before after inner
   pub out : r ≡ outcome_of inner
