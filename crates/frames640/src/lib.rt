@@ -13,6 +13,7 @@ use camera::Subpage;
 use filter::Steadied;
 use formulas::{Constants, RamData, Settings};
 use frames::{Call, Frame, Wanted};
+use pixels::{InfraredLists, TemperatureTables};
 use record640::{Calibration, RANGES};
 use rows640::{Pattern, TWO_ROWS};
 
@@ -124,20 +125,20 @@ fn from_pixels(
     let corners = calibration.corner_temperatures;
     let k_s_to = calibration.k_s_to;
     let coefficients = calibration.range_coefficients;
-    frames::from_pixels(
-        call,
-        mask,
+    let lists = InfraredLists {
         pixels,
         offsets,
         k_ta,
-        &k_v,
-        &access,
+        k_v: &k_v,
+        access: &access,
+    };
+    let tables = TemperatureTables {
         alpha,
-        &corners,
-        &k_s_to,
-        &coefficients,
-        destination,
-    )
+        corners: &corners,
+        k_s_to: &k_s_to,
+        coefficients: &coefficients,
+    };
+    frames::from_pixels(call, mask, lists, tables, destination)
 }
 
 // Turns a subpage's infrared values into temperatures, in place, both as f32 bits. The ambient temperature is the caller's, and is returned.
