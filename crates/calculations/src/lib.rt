@@ -15,6 +15,7 @@ use formulas::{Constants, RamData, Settings};
 use frames::{Call, Frame, Wanted};
 use map::RANGES;
 use offsets::Offset;
+use pixels::{InfraredLists, TemperatureTables};
 use refusal::Refusal;
 use roots::SIDE;
 
@@ -105,20 +106,20 @@ fn from_pixels<'a>(
     let corners = calibration.corner_temperatures;
     let k_s_to = calibration.k_s_to;
     let coefficients = calibration.range_coefficients;
-    frames::from_pixels(
-        call,
-        mask,
+    let lists = InfraredLists {
         pixels,
         offsets,
         k_ta,
         k_v,
-        &access,
+        access: &access,
+    };
+    let tables = TemperatureTables {
         alpha,
-        &corners,
-        &k_s_to,
-        &coefficients,
-        destination,
-    )
+        corners: &corners,
+        k_s_to: &k_s_to,
+        coefficients: &coefficients,
+    };
+    frames::from_pixels(call, mask, lists, tables, destination)
 }
 
 // Turns infrared values into temperatures, in place, both as f32 bits. The ambient temperature is the caller's, and is returned.

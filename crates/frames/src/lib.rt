@@ -14,8 +14,7 @@ ghost use Rattle.frames.specs.Inner.{any_ir, ranges_of, any_pass, shorter, tests
 
 use formulas::{CommonToData, Constants, RamData, Settings};
 use gates::Lengths;
-use offsets::Offset;
-use pixels::{Goal, Source, Work};
+use pixels::{Goal, InfraredLists, Source, TemperatureTables, Work};
 use refusal::{Refusal, Verdict};
 use roots::SIDE;
 
@@ -151,31 +150,24 @@ fn goal_of(call: Call, t_a: f32, k_s_to: &[f32]) -> Goal
 pub fn from_pixels(
     call: Call,
     mask: &[u8],
-    pixels: &[u8],
-    offsets: &[Offset],
-    k_ta: &[f32],
-    k_v: &[f32],
-    access: &[f32],
-    alpha: &[f32],
-    corners: &[i16],
-    k_s_to: &[f32],
-    coefficients: &[f32],
+    lists: InfraredLists<'_>,
+    tables: TemperatureTables<'_>,
     destination: &mut [u32],
 ) -> Result<Frame, Refusal>
-    requires blocks_bound { (call.blocks ≤ 1000) × (call.blocks * side ≤ call.table → Tabled (lent pixels.now offsets.now k_ta.now k_v.now call.k_v_blocks access.now call.access_blocks) call.blocks) }
-    requires ranges_nonzero { (0 < call.ranges) × (call.ranges ≤ length corners.now) × (call.ranges ≤ length k_s_to.now) × (call.ranges ≤ length coefficients.now) }
-    ensures { Makes call.wanted (any_pass (any_ir call pixels.now offsets.now k_ta.now k_v.now access.now mask.now)
-        (ranges_of call.ranges corners.now k_s_to.now coefficients.now) alpha.now)
+    requires blocks_bound { (call.blocks ≤ 1000) × (call.blocks * side ≤ call.table → Tabled (lent lists.pixels.now lists.offsets.now lists.k_ta.now lists.k_v.now call.k_v_blocks lists.access.now call.access_blocks) call.blocks) }
+    requires ranges_nonzero { (0 < call.ranges) × (call.ranges ≤ length tables.corners.now) × (call.ranges ≤ length tables.k_s_to.now) × (call.ranges ≤ length tables.coefficients.now) }
+    ensures { Makes call.wanted (any_pass (any_ir call lists.entry.pixels.now lists.entry.offsets.now lists.entry.k_ta.now lists.entry.k_v.now lists.entry.access.now mask.now)
+        (ranges_of call.ranges tables.entry.corners.now tables.entry.k_s_to.now tables.entry.coefficients.now) tables.entry.alpha.now)
         destination.old destination.new result }
 {
     let lengths = Lengths {
         size: call.blocks * SIDE,
         table: call.table,
-        pixels: pixels.len(),
+        pixels: lists.pixels.len(),
         destination: destination.len(),
         mask: mask.len(),
     };
-    gate(call, lengths, alpha.len(), corners)?;
+    gate(call, lengths, tables.alpha.len(), tables.corners)?;
     let constants = call.constants;
     let settings = call.settings;
     let ram = call.ram;
@@ -186,22 +178,9 @@ pub fn from_pixels(
         k_v_blocks: call.k_v_blocks,
         access_blocks: call.access_blocks,
         source: Source::Pixels { common, deduction },
-        goal: goal_of(call, common.t_a, k_s_to),
+        goal: goal_of(call, common.t_a, tables.k_s_to),
     };
-    let lost = pixels::frame_pixels(
-        work,
-        mask,
-        pixels,
-        offsets,
-        k_ta,
-        k_v,
-        access,
-        alpha,
-        corners,
-        k_s_to,
-        coefficients,
-        destination,
-    );
+    let lost = pixels::frame_pixels(work, mask, lists, tables, destination);
     Ok(Frame {
         t_a: floats::to_bits(common.t_a),
         lost,
@@ -243,20 +222,20 @@ pub fn from_infrared(
     // The pixel loop reads none of the lists that only pixels or the second pass need.
     let no_offsets = [0i32; 1];
     let no_corners = [0i16; 1];
-    let lost = pixels::frame_pixels(
-        work,
-        mask,
-        mask,
-        &no_offsets,
+    let lists = InfraredLists {
+        pixels: mask,
+        offsets: &no_offsets,
+        k_ta: alpha,
+        k_v: alpha,
+        access: alpha,
+    };
+    let tables = TemperatureTables {
         alpha,
-        alpha,
-        alpha,
-        alpha,
-        &no_corners,
+        corners: &no_corners,
         k_s_to,
-        k_s_to,
-        destination,
-    );
+        coefficients: k_s_to,
+    };
+    let lost = pixels::frame_pixels(work, mask, lists, tables, destination);
     Ok(Frame {
         t_a: floats::to_bits(t_a),
         lost,

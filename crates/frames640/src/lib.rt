@@ -12,6 +12,7 @@ ghost use Rattle.frames640.specs.Frames.{constants_of, access_cp_of, ir_call, to
 use camera::Subpage;
 use formulas::{Constants, RamData, Settings};
 use frames::{Call, Frame, Wanted};
+use pixels::{InfraredLists, TemperatureTables};
 use record640::{Calibration, RANGES};
 use refusal::Refusal;
 use rows640::{Pattern, TWO_ROWS};
@@ -124,20 +125,20 @@ fn from_pixels(
     let corners = calibration.corner_temperatures;
     let k_s_to = calibration.k_s_to;
     let coefficients = calibration.range_coefficients;
-    frames::from_pixels(
-        call,
-        mask,
+    let lists = InfraredLists {
         pixels,
         offsets,
         k_ta,
-        &k_v,
-        &access,
+        k_v: &k_v,
+        access: &access,
+    };
+    let tables = TemperatureTables {
         alpha,
-        &corners,
-        &k_s_to,
-        &coefficients,
-        destination,
-    )
+        corners: &corners,
+        k_s_to: &k_s_to,
+        coefficients: &coefficients,
+    };
+    frames::from_pixels(call, mask, lists, tables, destination)
 }
 
 // Turns a subpage's infrared values into temperatures, in place, both as f32 bits. The ambient temperature is the caller's, and is returned.

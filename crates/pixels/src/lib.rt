@@ -53,6 +53,25 @@ pub struct Work {
     pub goal: Goal,
 }
 
+// What infrared numbers are made of: the pixel bytes, the tables of offsets and K_Ta by pixel number, and the lists of K_V and access terms.
+#[derive(Clone, Copy)]
+pub struct InfraredLists<'a> {
+    pub pixels: &'a [u8],
+    pub offsets: &'a [Offset],
+    pub k_ta: &'a [f32],
+    pub k_v: &'a [f32],
+    pub access: &'a [f32],
+}
+
+// What temperatures are computed with: the table of alpha by pixel number, and the corners, K_sTo and coefficients of the ranges.
+#[derive(Clone, Copy)]
+pub struct TemperatureTables<'a> {
+    pub alpha: &'a [f32],
+    pub corners: &'a [i16],
+    pub k_s_to: &'a [f32],
+    pub coefficients: &'a [f32],
+}
+
 // ---- The mask
 
 // Whether the mask asks for pixel i.
@@ -108,19 +127,17 @@ fn real(offset: Offset) -> f32
 fn infrared_at(
     common: CommonIrData,
     deduction: Option<f32>,
-    pixels: &[u8],
-    offsets: &[Offset],
-    k_ta: &[f32],
+    lists: InfraredLists<'_>,
     i: usize,
     k_v: f32,
     access: f32,
 ) -> f32
-    requires { (i * 2 + 1 < length pixels.now) × (i < length offsets.now) × (i < length k_ta.now) }
-    ensures { result ≡ raw_of common deduction pixels.now offsets.now k_ta.now i k_v access }
+    requires { (i * 2 + 1 < length lists.pixels.now) × (i < length lists.offsets.now) × (i < length lists.k_ta.now) }
+    ensures { result ≡ raw_of common deduction lists.entry.pixels.now lists.entry.offsets.now lists.entry.k_ta.now i k_v access }
 {
-    let reading = reading_at(pixels, i);
-    let offset = real(offsets[i]);
-    let v_ir = formulas::per_pixel_v_ir(reading, common, offset, k_v, k_ta[i], access);
+    let reading = reading_at(lists.pixels, i);
+    let offset = real(lists.offsets[i]);
+    let v_ir = formulas::per_pixel_v_ir(reading, common, offset, k_v, lists.k_ta[i], access);
     formulas::deduct(v_ir, deduction)
 }
 
@@ -128,27 +145,23 @@ fn infrared_at(
 fn infrared_block(
     common: CommonIrData,
     deduction: Option<f32>,
-    pixels: &[u8],
-    offsets: &[Offset],
-    k_ta: &[f32],
+    lists: InfraredLists<'_>,
     base: usize,
-    k_v: &[f32],
     k_v_base: usize,
-    access: &[f32],
     access_base: usize,
     numbers: &mut [f32],
 )
-    requires side_in_bounds { ((base + side) * 2 ≤ length pixels.now) × (base + side ≤ length offsets.now) × (base + side ≤ length k_ta.now) }
-    requires side_in_bounds_2 { (k_v_base + side ≤ length k_v.now) × (access_base + side ≤ length access.now) × (side ≤ length numbers.old) }
-    ensures { Each (is (λ (i : ℕ). raw_of common deduction pixels.now offsets.now k_ta.now (base + i) (get_or k_v.now (k_v_base + i) nan) (get_or access.now (access_base + i) nan))) nan numbers.new side }
+    requires side_in_bounds { ((base + side) * 2 ≤ length lists.pixels.now) × (base + side ≤ length lists.offsets.now) × (base + side ≤ length lists.k_ta.now) }
+    requires side_in_bounds_2 { (k_v_base + side ≤ length lists.k_v.now) × (access_base + side ≤ length lists.access.now) × (side ≤ length numbers.old) }
+    ensures { Each (is (λ (i : ℕ). raw_of common deduction lists.entry.pixels.now lists.entry.offsets.now lists.entry.k_ta.now (base + i) (get_or lists.entry.k_v.now (k_v_base + i) nan) (get_or lists.entry.access.now (access_base + i) nan))) nan numbers.new side }
 {
+    let k_v = lists.k_v;
+    let access = lists.access;
     for i in 0..SIDE {
         let k = base + i;
         let v = k_v_base + i;
         let a = access_base + i;
-        numbers[i] = infrared_at(
-            common, deduction, pixels, offsets, k_ta, k, k_v[v], access[a],
-        );
+        numbers[i] = infrared_at(common, deduction, lists, k, k_v[v], access[a]);
     }
 }
 
@@ -175,17 +188,13 @@ fn turn(block: usize, blocks: usize) -> usize
 fn numbers_block(
     work: Work,
     block: usize,
-    pixels: &[u8],
-    offsets: &[Offset],
-    k_ta: &[f32],
-    k_v: &[f32],
-    access: &[f32],
+    lists: InfraredLists<'_>,
     destination: &[u32],
     numbers: &mut [f32],
 )
     requires block_lt_blocks { (block < work.blocks) × (work.blocks ≤ 1000) × (work.blocks * side ≤ length destination.now) × (side ≤ length numbers.old) }
-    requires readable_for { ReadableFor work.source (lent pixels.now offsets.now k_ta.now k_v.now work.k_v_blocks access.now work.access_blocks) work.blocks }
-    ensures { Each (is (λ (i : ℕ). number_at work.source (lent pixels.now offsets.now k_ta.now k_v.now work.k_v_blocks access.now work.access_blocks) destination.now (block * side + i))) nan numbers.new side }
+    requires readable_for { ReadableFor work.source (lent lists.pixels.now lists.offsets.now lists.k_ta.now lists.k_v.now work.k_v_blocks lists.access.now work.access_blocks) work.blocks }
+    ensures { Each (is (λ (i : ℕ). number_at work.source (lent lists.entry.pixels.now lists.entry.offsets.now lists.entry.k_ta.now lists.entry.k_v.now work.k_v_blocks lists.entry.access.now work.access_blocks) destination.now (block * side + i))) nan numbers.new side }
 {
     let base = block * SIDE;
     let source = work.source;
@@ -196,13 +205,9 @@ fn numbers_block(
             infrared_block(
                 common,
                 deduction,
-                pixels,
-                offsets,
-                k_ta,
+                lists,
                 base,
-                k_v,
                 k_v_base,
-                access,
                 access_base,
                 numbers,
             );
@@ -315,20 +320,21 @@ fn find_ranges(ranges: u32, corners: &[i16], basic: &[f32], found: &mut [u32])
 // The final values of the block from base on, by the range that was found for each.
 fn ranged_values(
     common: CommonToData,
-    alpha: &[f32],
-    corners: &[i16],
-    k_s_to: &[f32],
-    coefficients: &[f32],
+    tables: TemperatureTables<'_>,
     base: usize,
     numbers: &[f32],
     basic: &[f32],
     found: &[u32; SIDE],
     values: &mut [f32],
 )
-    requires side_in_bounds { (base + side ≤ length alpha.now) × (side ≤ length numbers.now) × (side ≤ length basic.now) × (side ≤ length values.old) }
-    requires by_index { (i : ℕ) → i < side → (get_or found.now i 0 < length corners.now) × (get_or found.now i 0 < length k_s_to.now) × (get_or found.now i 0 < length coefficients.now) }
-    ensures { Each (is (λ (i : ℕ). ranged_from common (table alpha.now corners.now k_s_to.now coefficients.now) (v numbers.now i) (base + i) (v basic.now i) (get_or found.now i 0))) nan values.new side }
+    requires side_in_bounds { (base + side ≤ length tables.alpha.now) × (side ≤ length numbers.now) × (side ≤ length basic.now) × (side ≤ length values.old) }
+    requires by_index { (i : ℕ) → i < side → (get_or found.now i 0 < length tables.corners.now) × (get_or found.now i 0 < length tables.k_s_to.now) × (get_or found.now i 0 < length tables.coefficients.now) }
+    ensures { Each (is (λ (i : ℕ). ranged_from common (table tables.entry.alpha.now tables.entry.corners.now tables.entry.k_s_to.now tables.entry.coefficients.now) (v numbers.now i) (base + i) (v basic.now i) (get_or found.now i 0))) nan values.new side }
 {
+    let alpha = tables.alpha;
+    let corners = tables.corners;
+    let k_s_to = tables.k_s_to;
+    let coefficients = tables.coefficients;
     for i in 0..SIDE {
         let k = base + i;
         let r = wide(found[i]);
@@ -346,28 +352,22 @@ fn ranged_values(
 fn ranged_block(
     common: CommonToData,
     ranges: u32,
-    alpha: &[f32],
-    corners: &[i16],
-    k_s_to: &[f32],
-    coefficients: &[f32],
+    tables: TemperatureTables<'_>,
     base: usize,
     numbers: &[f32],
     temperatures: &mut [f32],
 )
-    requires side_in_bounds { (base + side ≤ length alpha.now) × (side ≤ length numbers.now) × (side ≤ length temperatures.old) }
-    requires ranges_nonzero { (0 < ranges) × (ranges ≤ length corners.now) × (ranges ≤ length k_s_to.now) × (ranges ≤ length coefficients.now) }
-    ensures { Each (is (λ (i : ℕ). celsius (lifted_ranged_at common ranges (table alpha.now corners.now k_s_to.now coefficients.now) (v numbers.now i) (base + i)))) nan temperatures.new side }
+    requires side_in_bounds { (base + side ≤ length tables.alpha.now) × (side ≤ length numbers.now) × (side ≤ length temperatures.old) }
+    requires ranges_nonzero { (0 < ranges) × (ranges ≤ length tables.corners.now) × (ranges ≤ length tables.k_s_to.now) × (ranges ≤ length tables.coefficients.now) }
+    ensures { Each (is (λ (i : ℕ). celsius (lifted_ranged_at common ranges (table tables.entry.alpha.now tables.entry.corners.now tables.entry.k_s_to.now tables.entry.coefficients.now) (v numbers.now i) (base + i)))) nan temperatures.new side }
 {
     let mut found = [0u32; SIDE];
     let mut values = [0.0f32; SIDE];
-    temperature_block(common, alpha, base, numbers, temperatures);
-    find_ranges(ranges, corners, temperatures, &mut found);
+    temperature_block(common, tables.alpha, base, numbers, temperatures);
+    find_ranges(ranges, tables.corners, temperatures, &mut found);
     ranged_values(
         common,
-        alpha,
-        corners,
-        k_s_to,
-        coefficients,
+        tables,
         base,
         numbers,
         temperatures,
@@ -417,18 +417,15 @@ fn answer_bits(numbers: &[f32], temperatures: &[f32], bits: &mut [u32], flags: &
 // What the pixels of the block from base on are written as, from their infrared numbers, and which of them are lost.
 fn bits_block(
     goal: Goal,
-    alpha: &[f32],
-    corners: &[i16],
-    k_s_to: &[f32],
-    coefficients: &[f32],
+    tables: TemperatureTables<'_>,
     base: usize,
     numbers: &[f32],
     bits: &mut [u32],
     flags: &mut [u32],
 )
     requires side_in_bounds { (side ≤ length numbers.now) × (side ≤ length bits.old) × (side ≤ length flags.old) }
-    requires workable_for { WorkableFor goal (table alpha.now corners.now k_s_to.now coefficients.now) (base + side) }
-    ensures { Flagged (λ (i : ℕ). bits_by goal (table alpha.now corners.now k_s_to.now coefficients.now) (v numbers.now i) (base + i)) bits.new flags.new side }
+    requires workable_for { WorkableFor goal (table tables.alpha.now tables.corners.now tables.k_s_to.now tables.coefficients.now) (base + side) }
+    ensures { Flagged (λ (i : ℕ). bits_by goal (table tables.entry.alpha.now tables.entry.corners.now tables.entry.k_s_to.now tables.entry.coefficients.now) (v numbers.now i) (base + i)) bits.new flags.new side }
 {
     let mut temperatures = [0.0f32; SIDE];
     match goal {
@@ -436,21 +433,11 @@ fn bits_block(
             number_bits(numbers, bits, flags);
         }
         Goal::Temperature(common) => {
-            temperature_block(common, alpha, base, numbers, &mut temperatures);
+            temperature_block(common, tables.alpha, base, numbers, &mut temperatures);
             answer_bits(numbers, &temperatures, bits, flags);
         }
         Goal::Ranged { common, ranges } => {
-            ranged_block(
-                common,
-                ranges,
-                alpha,
-                corners,
-                k_s_to,
-                coefficients,
-                base,
-                numbers,
-                &mut temperatures,
-            );
+            ranged_block(common, ranges, tables, base, numbers, &mut temperatures);
             answer_bits(numbers, &temperatures, bits, flags);
         }
     }
@@ -481,21 +468,14 @@ fn write_block(
 pub fn frame_pixels(
     work: Work,
     mask: &[u8],
-    pixels: &[u8],
-    offsets: &[Offset],
-    k_ta: &[f32],
-    k_v: &[f32],
-    access: &[f32],
-    alpha: &[f32],
-    corners: &[i16],
-    k_s_to: &[f32],
-    coefficients: &[f32],
+    lists: InfraredLists<'_>,
+    tables: TemperatureTables<'_>,
     destination: &mut [u32],
 ) -> usize
     requires blocks_bound { (work.blocks ≤ 1000) × (work.blocks * side ≤ length mask.now) × (work.blocks * side ≤ length destination.old) }
-    requires readable_for { ReadableFor work.source (lent pixels.now offsets.now k_ta.now k_v.now work.k_v_blocks access.now work.access_blocks) work.blocks }
-    requires workable_for { WorkableFor work.goal (table alpha.now corners.now k_s_to.now coefficients.now) (work.blocks * side) }
-    ensures { Written work (lent pixels.now offsets.now k_ta.now k_v.now work.k_v_blocks access.now work.access_blocks) (table alpha.now corners.now k_s_to.now coefficients.now) mask.now destination.old destination.new result }
+    requires readable_for { ReadableFor work.source (lent lists.pixels.now lists.offsets.now lists.k_ta.now lists.k_v.now work.k_v_blocks lists.access.now work.access_blocks) work.blocks }
+    requires workable_for { WorkableFor work.goal (table tables.alpha.now tables.corners.now tables.k_s_to.now tables.coefficients.now) (work.blocks * side) }
+    ensures { Written work (lent lists.entry.pixels.now lists.entry.offsets.now lists.entry.k_ta.now lists.entry.k_v.now work.k_v_blocks lists.entry.access.now work.access_blocks) (table tables.entry.alpha.now tables.entry.corners.now tables.entry.k_s_to.now tables.entry.coefficients.now) mask.now destination.old destination.new result }
 {
     let blocks = work.blocks;
     let goal = work.goal;
@@ -508,28 +488,8 @@ pub fn frame_pixels(
         let mut numbers = [0.0f32; SIDE];
         let mut bits = [0u32; SIDE];
         let mut flags = [0u32; SIDE];
-        numbers_block(
-            work,
-            block,
-            pixels,
-            offsets,
-            k_ta,
-            k_v,
-            access,
-            destination,
-            &mut numbers,
-        );
-        bits_block(
-            goal,
-            alpha,
-            corners,
-            k_s_to,
-            coefficients,
-            base,
-            &numbers,
-            &mut bits,
-            &mut flags,
-        );
+        numbers_block(work, block, lists, destination, &mut numbers);
+        bits_block(goal, tables, base, &numbers, &mut bits, &mut flags);
         lost += write_block(mask, &bits, &flags, base, destination) as usize;
     }
     lost

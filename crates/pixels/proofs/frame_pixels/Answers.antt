@@ -53,7 +53,7 @@ loop-block-preserved c =
     let a = c.args in
     let l = c.loop-block in
     let e : l.block * side + side ≡ (l.block + 1) * side = omega arith in
-    (omega arith, rw e at (with-block _ l.invariant.1 c.write_block.ensures (block-agrees c.args.work.goal c.args.work.source (lent a.pixels.now a.offsets.now a.k_ta.now a.k_v.now a.work.k_v_blocks a.access.now a.work.access_blocks) (table a.alpha.now a.corners.now a.k_s_to.now a.coefficients.now) c.args.mask.now c.args.destination.now _ (l.block * side) l.invariant.1.list c.numbers_block.ensures c.bits_block.ensures)))
+    (omega arith, rw e at (with-block _ l.invariant.1 c.write_block.ensures (block-agrees c.args.work.goal c.args.work.source (lent a.lists.pixels.now a.lists.offsets.now a.lists.k_ta.now a.lists.k_v.now a.work.k_v_blocks a.lists.access.now a.work.access_blocks) (table a.tables.alpha.now a.tables.corners.now a.tables.k_s_to.now a.tables.coefficients.now) c.args.mask.now c.args.destination.now _ (l.block * side) l.invariant.1.list c.numbers_block.ensures c.bits_block.ensures)))
 
 pub returns : goal.returns
 returns c =

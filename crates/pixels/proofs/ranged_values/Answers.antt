@@ -18,13 +18,13 @@ pub loop-i-init : goal.loop-i-init
 loop-i-init c = begun _
 
 pub offset_bounds-corners-r : goal.offset_bounds-corners-r
-offset_bounds-corners-r c = let k : c.loop-i.i < side = search rules in let q = c.requires.by_index c.loop-i.i k in let e = c.wide-r.ensures in let h : c.wide-r.result < length c.args.corners.now = omega arith in search rules
+offset_bounds-corners-r c = let k : c.loop-i.i < side = search rules in let q = c.requires.by_index c.loop-i.i k in let e = c.wide-r.ensures in let h : c.wide-r.result < length c.args.tables.corners.now = omega arith in search rules
 
 pub offset_bounds-k_s_to-r : goal.offset_bounds-k_s_to-r
-offset_bounds-k_s_to-r c = let k : c.loop-i.i < side = search rules in let q = c.requires.by_index c.loop-i.i k in let e = c.wide-r.ensures in let h : c.wide-r.result < length c.args.k_s_to.now = omega arith in search rules
+offset_bounds-k_s_to-r c = let k : c.loop-i.i < side = search rules in let q = c.requires.by_index c.loop-i.i k in let e = c.wide-r.ensures in let h : c.wide-r.result < length c.args.tables.k_s_to.now = omega arith in search rules
 
 pub offset_bounds-coefficients-r : goal.offset_bounds-coefficients-r
-offset_bounds-coefficients-r c = let k : c.loop-i.i < side = search rules in let q = c.requires.by_index c.loop-i.i k in let e = c.wide-r.ensures in let h : c.wide-r.result < length c.args.coefficients.now = omega arith in search rules
+offset_bounds-coefficients-r c = let k : c.loop-i.i < side = search rules in let q = c.requires.by_index c.loop-i.i k in let e = c.wide-r.ensures in let h : c.wide-r.result < length c.args.tables.coefficients.now = omega arith in search rules
 
 pub bounds-corners-r : goal.bounds-corners-r
 bounds-corners-r c = let k : c.loop-i.i < side = search rules in let q = c.requires.by_index c.loop-i.i k in let e = c.wide-r.ensures in omega arith
@@ -37,7 +37,7 @@ bounds-coefficients-r c = let k : c.loop-i.i < side = search rules in let q = c.
 
 pub loop-i-preserved : goal.loop-i-preserved
 loop-i-preserved c =
-    let corner = corner_at c.args.corners.now c.wide-r.result in
+    let corner = corner_at c.args.tables.corners.now c.wide-r.result in
     let own : to_z w16 (of_z w16 corner) ≡ corner = to_z-of_z {w = w16} (search rules) in
     entered c.loop-i.invariant (search rules) (search rules) (ranged-value _ _ _ _ _ _ c.wide-r.ensures (c.whole.ensures ∙ ap real own) c.sensitivity-a.ensures c.ranged_value.ensures)
 
