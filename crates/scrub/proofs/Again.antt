@@ -15,7 +15,8 @@ use Rattle.map.specs.Map.{card_words, image_bytes, checked_words}
 use Rattle.card.specs.Card.{damaged_at}
 use Rattle.listing.specs.Index.{list_index, listed_word}
 use Rattle.scrub.specs.declared.Counts.{Counts}
-use Rattle.scrub.specs.Scrub.{mended_at, scrubbed, how_many, numbered, Lent, left_of, counts_of, counts_or, Scrubs}
+use Rattle.refusal.specs.Refusal.{giving}
+use Rattle.scrub.specs.Scrub.{mended_at, scrubbed, how_many, numbered, Lent, left_of, counts_of, Scrubs}
 use Rattle.scrub.specs.Laws.{Settled}
 use Rattle.scrub.proofs.Mended.{damaged-checked}
 use Rattle.scrub.proofs.Opened.{closed}
@@ -88,7 +89,7 @@ module _ {before left second after : Lent} {r q : Result Counts Refusal} {n : Co
 
   passes : q ≡ Ok (counts_of second.image)
   passes =
-      t.result ∙ ap (λ (v : Result ⊤ Refusal). counts_or v (counts_of second.image)) (closed second (record { image = let f = ap length image-is in let g = length-after image in let h = enough in omega arith; changed = c; damaged = d }))
+      t.result ∙ ap (λ (v : Result ⊤ Refusal). giving v (counts_of second.image)) (closed second (record { image = let f = ap length image-is in let g = length-after image in let h = enough in omega arith; changed = c; damaged = d }))
 
   pub again : Settled n left q second after
   unfolding left_of counts_of

@@ -9,13 +9,13 @@ use lib.ListN.{length, get_or}
 use Rattle.lists.proofs.Written.{written_at}
 use Rattle.std.specs.Prelude.{⊤, Result, Ok, Err}
 use Rattle.refusal.specs.declared.Refusal.{Refusal}
-use Rattle.refusal.specs.Refusal.{unless}
+use Rattle.refusal.specs.Refusal.{unless, giving}
 use Rattle.map.specs.Map.{card_words, checked_words, checked}
 use Rattle.card.specs.Card.{damaged_at}
 use Rattle.listing.specs.Index.{list_index, listed_word}
 use Rattle.listing.proofs.Index.{rises, index-before, word-of-index, listed-lt, is-listed, index-of-word, checked-all}
 use Rattle.scrub.specs.declared.Counts.{Counts}
-use Rattle.scrub.specs.Scrub.{mended_at, Lent, left_of, counts_of, how_many, numbered, counts_or, scrub_verdict, Scrubs}
+use Rattle.scrub.specs.Scrub.{mended_at, Lent, left_of, counts_of, how_many, numbered, scrub_verdict, Scrubs}
 use Rattle.scrub.specs.Laws.{Lists}
 use Rattle.scrub.proofs.Mended.{mended-checked, damaged-checked}
 use Rattle.scrub.proofs.Noted.{fewer}
@@ -57,7 +57,7 @@ pub new-if : {A : Type 0} {r : Result ⊤ Refusal} (new old : A) {x : A} → r �
 new-if new old e p = p ∙ ap (λ (v : Result ⊤ Refusal). unless v new old) e
 
 -- a scrub that returns counts is not refused, and they are those of the image
-went : (v : Result ⊤ Refusal) (c n : Counts) → counts_or v c ≡ Ok n → (v ≡ Ok tt) × (n ≡ c)
+went : (v : Result ⊤ Refusal) (c n : Counts) → giving v c ≡ Ok n → (v ≡ Ok tt) × (n ≡ c)
 went (Ok tt) c n e = (refl, cc e)
 went (Err refusal) c n e = absurd (let z : ◌≡◌ {A = ℕ} 0 1 = cc in omega arith)
 

@@ -4,7 +4,7 @@ use Rattle.std.specs.Prelude.{ℕ, ◌/◌, ◌≡◌, Bool, not, ◌&&◌, ◌|
 use Rattle.lists.specs.Written.{written, filled}
 use Rattle.refusal.specs.declared.Refusal.TheVariants.{ShortImage, ShortTable}
 use Rattle.refusal.specs.declared.Refusal.{Refusal}
-use Rattle.refusal.specs.Refusal.{unless}
+use Rattle.refusal.specs.Refusal.{unless, giving}
 use Rattle.refusal.specs.Order.{Test, ◌refuses◌, first_of}
 use Rattle.hamming.specs.Word.{encoded}
 use Rattle.map.specs.Map.{card_words, image_bytes, checked_words}
@@ -77,12 +77,7 @@ scrub_verdict before = first_of (scrub_tests (length before.image) (length befor
 
 -- ---- the contract
 
--- what `scrub` returns: the refusal, or the counts
-abbrev pub counts_or : Result ⊤ Refusal → Counts → Result Counts Refusal
-counts_or (Ok _) counts = Ok counts
-counts_or (Err refusal) counts = Err refusal
-
 -- the contract of `scrub`: the caller's slices before and after, and its result r
 pub record Scrubs (before after : Lent) (r : Result Counts Refusal) : Type 0 where
-  pub result : r ≡ counts_or (scrub_verdict before) (counts_of before.image)
+  pub result : r ≡ giving (scrub_verdict before) (counts_of before.image)
   pub left : after ≡ unless (scrub_verdict before) (left_of before) before
