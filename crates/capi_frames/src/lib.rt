@@ -39,7 +39,7 @@ pub struct Settings {
     pub reflected_given: u8,
 }
 
-// The inputs of a frame apart from the card's record and tables. Subpage 0 is the first, any other number the second.
+// The inputs of a frame apart from the card's record and tables. Subpage 0 is the first, any other number the second: C may hand in any.
 #[repr(C)]
 #[derive(Clone, Copy)]
 pub struct Input {

@@ -17,7 +17,7 @@ use capi_record640::Record640;
 use rows640::Pattern;
 
 // The inputs of a frame apart from the card's record and tables. Subpage 0 is the first, any other number the second; pattern 0 is interleave, any other
-// number chess.
+// number chess: C may hand in any.
 #[repr(C)]
 #[derive(Clone, Copy)]
 pub struct Input640 {
