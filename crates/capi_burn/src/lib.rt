@@ -3,9 +3,9 @@
 
 ghost use Rattle.std.specs.Prelude.{◌≡◌};
 ghost use Rattle.burn.specs.Burn.{next_of};
-ghost use Rattle.capi_burn.specs.Burning.{flag_of, burning_out, is_reached, Burning};
+ghost use Rattle.capi_burn.specs.Burning.{flag_of, burning_out, burnt_out, is_reached, Burning};
 
-use burn::Step;
+use burn::{Burnt, Step};
 use refusal::Refusal;
 
 // The result of a burning call: number, place and value of the refusal, all 0 for none; the step's word and its new value, 832 and 0 if there is no step; and
@@ -22,13 +22,6 @@ pub struct Burn {
     pub reached: u8,
 }
 
-// Returns a test as 1 or 0.
-fn flag(test: bool) -> u8
-    ensures { result ≡ flag_of test }
-{
-    u8::from(test)
-}
-
 // Whether there is no step left to do.
 fn is_reached(next: Result<Option<Step>, Refusal>) -> bool
     ensures { result ≡ is_reached next }
@@ -36,7 +29,7 @@ fn is_reached(next: Result<Option<Step>, Refusal>) -> bool
     matches!(next, Ok(None))
 }
 
-// Returns a step as C has it.
+// Returns a step as C has it. A function, since a `From` has one argument.
 fn burn_out(next: Result<Option<Step>, Refusal>, reached: u8) -> Burn
     ensures { result ≡ burning_out next reached }
 {
@@ -71,13 +64,25 @@ fn burn_out(next: Result<Option<Step>, Refusal>, reached: u8) -> Burn
     }
 }
 
+// The result of a burn as C has it. After a refusal the wanted image is not reached.
+impl From<Result<Burnt, Refusal>> for Burn {
+    ghost from_gives = { λ burnt result. result ≡ burnt_out burnt };
+
+    fn from(burnt: Result<Burnt, Refusal>) -> Burn {
+        match burnt {
+            Err(refusal) => burn_out(Err(refusal), 0),
+            Ok(burnt) => burn_out(Ok(burnt.step), u8::from(burnt.reached)),
+        }
+    }
+}
+
 // Returns the step that `loamchalice_burn` would do. `reached` is 1 if there is none. Refusals 1 and 11.
 #[unsafe(no_mangle)]
 pub extern "C" fn loamchalice_next_step(present: &[u8], wanted: &[u8]) -> Burn
     ensures { result ≡ burning_out (next_of present.now wanted.now) (flag_of (is_reached (next_of present.now wanted.now))) }
 {
     let next = burn::next_step(present, wanted);
-    burn_out(next, flag(is_reached(next)))
+    burn_out(next, u8::from(is_reached(next)))
 }
 
 // Does one step on the present image. `reached` is 1 if the image is now the wanted one. Refusals 1 and 11; after one no byte has changed.
@@ -85,8 +90,5 @@ pub extern "C" fn loamchalice_next_step(present: &[u8], wanted: &[u8]) -> Burn
 pub extern "C" fn loamchalice_burn(present: &mut [u8], wanted: &[u8]) -> Burn
     ensures { Burning present.old wanted.now present.new result }
 {
-    match burn::burn(present, wanted) {
-        Err(refusal) => burn_out(Err(refusal), 0),
-        Ok(burnt) => burn_out(Ok(burnt.step), flag(burnt.reached)),
-    }
+    burn::burn(present, wanted).into()
 }
