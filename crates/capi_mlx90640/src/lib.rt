@@ -84,24 +84,26 @@ pub extern "C" fn loamchalice_mlx90640_access_pattern(word: u16) -> AccessPatter
     }
 }
 
-// Returns a pixel's entry as C has it.
-fn entry_out(entry: Result<usize, Refusal>) -> PixelEntry
-    ensures { result ≡ entry_out entry }
-{
-    match entry {
-        Ok(at) => PixelEntry {
-            number: 0,
-            place: 0,
-            value: 0,
-            entry: at,
-        },
-        Err(refusal) => {
-            let told = refusal.told();
-            PixelEntry {
-                number: told.number,
-                place: told.place,
-                value: told.value,
-                entry: 0,
+// A pixel's entry as C has it.
+impl From<Result<usize, Refusal>> for PixelEntry {
+    ghost from_gives = { λ entry result. result ≡ entry_out entry };
+
+    fn from(entry: Result<usize, Refusal>) -> PixelEntry {
+        match entry {
+            Ok(at) => PixelEntry {
+                number: 0,
+                place: 0,
+                value: 0,
+                entry: at,
+            },
+            Err(refusal) => {
+                let told = refusal.told();
+                PixelEntry {
+                    number: told.number,
+                    place: told.place,
+                    value: told.value,
+                    entry: 0,
+                }
             }
         }
     }
@@ -112,7 +114,7 @@ fn entry_out(entry: Result<usize, Refusal>) -> PixelEntry
 pub extern "C" fn loamchalice_mlx90640_interleave_entry(pixel: usize) -> PixelEntry
     ensures { result ≡ entry_out (entry_of pixel (interleave_at pixel)) }
 {
-    entry_out(mlx90640::interleave_entry(pixel))
+    mlx90640::interleave_entry(pixel).into()
 }
 
 // Returns the index, 0 to 3, of a pixel's entry in the chessboard. Refusal 14.
@@ -120,5 +122,5 @@ pub extern "C" fn loamchalice_mlx90640_interleave_entry(pixel: usize) -> PixelEn
 pub extern "C" fn loamchalice_mlx90640_chessboard_entry(pixel: usize) -> PixelEntry
     ensures { result ≡ entry_out (entry_of pixel (chessboard_at pixel)) }
 {
-    entry_out(mlx90640::chessboard_entry(pixel))
+    mlx90640::chessboard_entry(pixel).into()
 }
