@@ -1,31 +1,28 @@
 // Cases of burning a card: the next step, and a burn.
-use burn::Next;
-use refusal::Verdict;
+use burn::Step;
+use refusal::Refusal;
+use stream::{Differs, Expected};
 
-fn same_step(answer: &[u8], from: usize, verdict: Verdict, word: usize, value: u16) -> usize {
-    let mut at = stream::same_verdict(answer, from, verdict);
-    at = stream::same_size(answer, at, word);
-    stream::same_half(answer, at, value)
+// Compares the refusal, the step's word and its value: 832 and 0 if there is no step.
+fn same_next(expected: &mut Expected, next: Result<Option<Step>, Refusal>) -> Result<(), Differs> {
+    let step = next.unwrap_or(None).unwrap_or(Step {
+        word: 832,
+        value: 0,
+    });
+    expected.same_verdict(next.map(|_| ()))?;
+    expected.same_size(step.word)?;
+    expected.same(step.value)
 }
 
-fn same_next(answer: &[u8], from: usize, next: Next) -> usize {
-    match next {
-        Next::Stopped(refusal) => same_step(answer, from, Verdict::Refused(refusal), 832, 0),
-        Next::Reached => same_step(answer, from, Verdict::Pass, 832, 0),
-        Next::Due(step) => same_step(answer, from, Verdict::Pass, step.word, step.value),
-    }
-}
-
-pub fn burn(input: &[u8], answer: &[u8]) -> usize {
+pub fn burn(input: &[u8], expected: &mut Expected) -> Result<(), Differs> {
     let mut present = [0u8; 1680];
-    stream::fill_bytes(input, 4, &mut present);
+    stream::fill(input, 4, &mut present);
     let length = stream::size_at(input, 0);
-    let wanted = stream::bytes(stream::rest(input, 1684), 0, stream::size_at(input, 2));
-    let next = burn::next_step(stream::bytes(&present, 0, length), wanted);
-    let burnt = burn::burn(stream::bytes_mut(&mut present, length), wanted);
-    let done = burnt.step;
-    let mut at = same_next(answer, 0, next);
-    at = same_next(answer, at, done);
-    at = stream::same_flag(answer, at, burnt.reached);
-    stream::same_bytes(answer, at, &present)
+    let wanted = stream::bytes(input, 1684, stream::size_at(input, 2));
+    let next = burn::next_step(stream::first(&present, length), wanted);
+    let burnt = burn::burn(stream::first_mut(&mut present, length), wanted);
+    same_next(expected, next)?;
+    same_next(expected, burnt.map(|burnt| burnt.step))?;
+    expected.same_flag(matches!(burnt, Ok(burnt) if burnt.reached))?;
+    expected.all_same(&present)
 }

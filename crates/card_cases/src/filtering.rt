@@ -1,54 +1,49 @@
 // Cases of a filter: a sequence of pushes and resets.
-use filter::{Filter, Steadied};
+use filter::Filter;
+use stream::{Differs, Expected};
 
-// The position of the next event, the number of bytes that agree, and the filter.
+// The position of the next event, and the filter.
 #[derive(Clone, Copy)]
 struct Turn {
     at: usize,
-    agreed: usize,
     filter: Filter,
 }
 
-fn same_average(answer: &[u8], from: usize, filter: Filter) -> usize {
-    let said = filter::average(filter);
-    match said {
-        Steadied::NotYet => {
-            let at = stream::same_flag(answer, from, false);
-            stream::same_word(answer, at, 0)
-        }
-        Steadied::Average(average) => {
-            let at = stream::same_flag(answer, from, true);
-            stream::same_real(answer, at, average)
-        }
+// Whether there is an average, and the average; 0 if there is none.
+fn same_average(expected: &mut Expected, average: Option<f32>) -> Result<(), Differs> {
+    expected.same_flag(average.is_some())?;
+    match average {
+        Some(average) => expected.same(average),
+        None => expected.same(0u32),
     }
 }
 
-fn event(input: &[u8], answer: &[u8], turn: Turn) -> Turn {
-    let pushed = stream::byte_at(input, turn.at) == 0;
-    let reading = stream::short_at(input, stream::after(turn.at, 1));
-    let filter = if pushed {
-        filter::push(turn.filter, reading)
+fn event(input: &[u8], turn: Turn) -> Turn {
+    if stream::byte_at(input, turn.at) == 0 {
+        let reading = stream::short_at(input, stream::after(turn.at, 1));
+        Turn {
+            at: stream::after(turn.at, 3),
+            filter: filter::push(turn.filter, reading),
+        }
     } else {
-        filter::new()
-    };
-    Turn {
-        at: stream::after(turn.at, if pushed { 3 } else { 1 }),
-        agreed: same_average(answer, turn.agreed, filter),
-        filter,
+        Turn {
+            at: stream::after(turn.at, 1),
+            filter: filter::new(),
+        }
     }
 }
 
-pub fn filter(input: &[u8], answer: &[u8]) -> usize {
+pub fn filter(input: &[u8], expected: &mut Expected) -> Result<(), Differs> {
     let mut turn = Turn {
         at: 0,
-        agreed: 0,
         filter: filter::new(),
     };
     for _ in 0..65536usize {
         if input.len() <= turn.at {
             break;
         }
-        turn = event(input, answer, turn);
+        turn = event(input, turn);
+        same_average(expected, filter::average(turn.filter))?;
     }
-    turn.agreed
+    Ok(())
 }

@@ -1,5 +1,5 @@
-// Test cases of words and cards: each makes the call of its kind on its input, and returns how much of the answer agrees. docs/CASES.md describes the inputs
-// and answers.
+// Test cases of words and cards: each makes the call of its kind on its input, and compares the result with the expected answer. docs/CASES.md describes the
+// inputs and answers.
 #![tactic(auto)]
 
 mod burning;
@@ -10,22 +10,23 @@ mod pieces;
 mod word_lists;
 mod words;
 
-pub fn agreed(kind: u16, input: &[u8], answer: &[u8]) -> usize {
-    match kind {
-        stream::ENCODE => words::encode(input, answer),
-        stream::CHECK => words::check(input, answer),
-        stream::LOAD => loads::load(input, answer),
-        stream::ROW => loads::row(input, answer),
-        stream::SUBPAGE => loads::subpage(input, answer),
-        stream::READ_WORDS => word_lists::read_words(input, answer),
-        stream::WRITE => word_lists::write(input, answer),
-        stream::SCRUB => word_lists::scrub(input, answer),
-        stream::BURN => burning::burn(input, answer),
-        stream::PIECES => pieces::pieces(input, answer),
-        stream::FILTER => filtering::filter(input, answer),
-        stream::WORD => other::word(input, answer),
-        stream::SPLIT => other::split(input, answer),
-        stream::PIXEL => other::pixel(input, answer),
-        _ => stream::FAILED,
+use stream::{CardCase, Differs, Expected};
+
+pub fn compare(case: CardCase, input: &[u8], expected: &mut Expected) -> Result<(), Differs> {
+    match case {
+        CardCase::Encode => words::encode(input, expected),
+        CardCase::Check => words::check(input, expected),
+        CardCase::Load => loads::load(input, expected),
+        CardCase::Row => loads::row(input, expected),
+        CardCase::Subpage => loads::subpage(input, expected),
+        CardCase::ReadWords => word_lists::read_words(input, expected),
+        CardCase::Write => word_lists::write(input, expected),
+        CardCase::Scrub => word_lists::scrub(input, expected),
+        CardCase::Burn => burning::burn(input, expected),
+        CardCase::Pieces => pieces::pieces(input, expected),
+        CardCase::Filter => filtering::filter(input, expected),
+        CardCase::Word => other::word(input, expected),
+        CardCase::Split => other::split(input, expected),
+        CardCase::Pixel => other::pixel(input, expected),
     }
 }

@@ -3,126 +3,126 @@ use calibration::Calibration;
 use camera::Subpage;
 use eeprom::Loaded;
 use offsets::Offset;
+use refusal::Refusal;
+use stream::{Differs, Expected};
 
 // ---- A record
 
-fn same_sensor(answer: &[u8], from: usize, record: Calibration) -> usize {
-    let mut at = stream::same_small(answer, from, record.k_v_dd);
-    at = stream::same_small(answer, at, record.v_dd_25);
-    at = stream::same_word(answer, at, record.resolution as u32);
-    at = stream::same_real(answer, at, record.k_v_ptat);
-    at = stream::same_real(answer, at, record.k_t_ptat);
-    at = stream::same_real(answer, at, record.v_ptat_25);
-    at = stream::same_real(answer, at, record.alpha_ptat);
-    at = stream::same_real(answer, at, record.gain);
-    stream::same_real(answer, at, record.k_s_ta)
+fn same_sensor(expected: &mut Expected, record: Calibration) -> Result<(), Differs> {
+    expected.same(i32::from(record.k_v_dd))?;
+    expected.same(i32::from(record.v_dd_25))?;
+    expected.same(u32::from(record.resolution))?;
+    expected.same(record.k_v_ptat)?;
+    expected.same(record.k_t_ptat)?;
+    expected.same(record.v_ptat_25)?;
+    expected.same(record.alpha_ptat)?;
+    expected.same(record.gain)?;
+    expected.same(record.k_s_ta)
 }
 
-fn same_corners(answer: &[u8], from: usize, corners: [i16; 8]) -> usize {
-    let mut at = stream::same_small(answer, from, corners[0]);
-    at = stream::same_small(answer, at, corners[1]);
-    at = stream::same_small(answer, at, corners[2]);
-    at = stream::same_small(answer, at, corners[3]);
-    at = stream::same_small(answer, at, corners[4]);
-    at = stream::same_small(answer, at, corners[5]);
-    at = stream::same_small(answer, at, corners[6]);
-    stream::same_small(answer, at, corners[7])
+fn same_compensation(expected: &mut Expected, record: Calibration) -> Result<(), Differs> {
+    expected.same(record.emissivity)?;
+    expected.same(record.alpha_cp)?;
+    expected.same(i32::from(record.offset_reference_cp))?;
+    expected.same(record.k_v_cp)?;
+    expected.same(record.k_ta_cp)?;
+    expected.same_gradient(record.temperature_gradient_coefficient)
 }
 
-fn same_compensation(answer: &[u8], from: usize, record: Calibration) -> usize {
-    let mut at = stream::same_real(answer, from, record.emissivity);
-    at = stream::same_real(answer, at, record.alpha_cp);
-    at = stream::same_small(answer, at, record.offset_reference_cp);
-    at = stream::same_real(answer, at, record.k_v_cp);
-    at = stream::same_real(answer, at, record.k_ta_cp);
-    let gradient = record.temperature_gradient_coefficient;
-    stream::same_gradient(answer, at, gradient)
-}
-
-fn same_record(answer: &[u8], from: usize, record: Calibration) -> usize {
-    let corners = record.corner_temperatures;
-    let k_s_to = record.k_s_to;
-    let coefficients = record.range_coefficients;
-    let mut at = same_sensor(answer, from, record);
-    at = same_corners(answer, at, corners);
-    at = stream::same_reals(answer, at, &k_s_to);
-    at = same_compensation(answer, at, record);
-    stream::same_reals(answer, at, &coefficients)
+fn same_record(expected: &mut Expected, record: Calibration) -> Result<(), Differs> {
+    same_sensor(expected, record)?;
+    for corner in record.corner_temperatures {
+        expected.same(i32::from(corner))?;
+    }
+    expected.all_same(&record.k_s_to)?;
+    same_compensation(expected, record)?;
+    expected.all_same(&record.range_coefficients)
 }
 
 // ---- A load
 
-// Compares verdict, mended words and record.
-pub fn same_loaded(answer: &[u8], from: usize, loaded: Loaded) -> usize {
-    let verdict = loaded.verdict;
-    let mending = loaded.mending;
-    let record = loaded.calibration;
-    let mut at = stream::same_verdict(answer, from, verdict);
-    at = stream::same_size(answer, at, mending.count);
-    at = stream::same_size(answer, at, mending.last);
-    same_record(answer, at, record)
+// Compares verdict, mended words and record. After a refusal the expected answer has no mended words and a record of zeros.
+pub fn same_loaded(
+    expected: &mut Expected,
+    loaded: Result<Loaded, Refusal>,
+) -> Result<(), Differs> {
+    let verdict = loaded.map(|_| ());
+    let Loaded {
+        calibration,
+        mending,
+    } = loaded.unwrap_or(Loaded {
+        calibration: calibration::no_calibration(),
+        mending: card::no_mending(),
+    });
+    expected.same_verdict(verdict)?;
+    expected.same_size(mending.count)?;
+    expected.same_size(mending.last)?;
+    same_record(expected, calibration)
 }
 
-pub fn same_tables(
-    answer: &[u8],
-    from: usize,
-    offsets0: &[Offset],
-    offsets1: &[Offset],
-    alpha: &[f32],
-    k_v: &[f32],
-    k_ta: &[f32],
-) -> usize {
-    let mut at = stream::same_wholes(answer, from, offsets0);
-    at = stream::same_wholes(answer, at, offsets1);
-    at = stream::same_reals(answer, at, alpha);
-    at = stream::same_reals(answer, at, k_v);
-    stream::same_reals(answer, at, k_ta)
+// The five tables of a load.
+#[derive(Clone, Copy)]
+pub struct Tables {
+    pub offsets0: [Offset; 200],
+    pub offsets1: [Offset; 200],
+    pub alpha: [f32; 200],
+    pub k_v: [f32; 200],
+    pub k_ta: [f32; 200],
 }
 
-pub fn load(input: &[u8], answer: &[u8]) -> usize {
-    let mut offsets0: [Offset; 200] = [77; 200];
-    let mut offsets1: [Offset; 200] = [77; 200];
-    let mut alpha = [77.0f32; 200];
-    let mut k_v = [77.0f32; 200];
-    let mut k_ta = [77.0f32; 200];
+// The tables before a load: an entry that no call writes stays 77.
+pub fn tables_before() -> Tables {
+    Tables {
+        offsets0: [77; 200],
+        offsets1: [77; 200],
+        alpha: [77.0; 200],
+        k_v: [77.0; 200],
+        k_ta: [77.0; 200],
+    }
+}
+
+pub fn same_tables(expected: &mut Expected, tables: &Tables) -> Result<(), Differs> {
+    expected.all_same(&tables.offsets0)?;
+    expected.all_same(&tables.offsets1)?;
+    expected.all_same(&tables.alpha)?;
+    expected.all_same(&tables.k_v)?;
+    expected.all_same(&tables.k_ta)
+}
+
+pub fn load(input: &[u8], expected: &mut Expected) -> Result<(), Differs> {
+    let mut tables = tables_before();
     let loaded = eeprom::load(
         stream::rest(input, 18),
         stream::long_at(input, 0) as usize,
-        stream::wholes_mut(&mut offsets0, stream::size_at(input, 8)),
-        stream::wholes_mut(&mut offsets1, stream::size_at(input, 10)),
-        stream::reals_mut(&mut alpha, stream::size_at(input, 12)),
-        stream::reals_mut(&mut k_v, stream::size_at(input, 14)),
-        stream::reals_mut(&mut k_ta, stream::size_at(input, 16)),
+        stream::first_mut(&mut tables.offsets0, stream::size_at(input, 8)),
+        stream::first_mut(&mut tables.offsets1, stream::size_at(input, 10)),
+        stream::first_mut(&mut tables.alpha, stream::size_at(input, 12)),
+        stream::first_mut(&mut tables.k_v, stream::size_at(input, 14)),
+        stream::first_mut(&mut tables.k_ta, stream::size_at(input, 16)),
     );
-    let at = same_loaded(answer, 0, loaded);
-    same_tables(answer, at, &offsets0, &offsets1, &alpha, &k_v, &k_ta)
+    same_loaded(expected, loaded)?;
+    same_tables(expected, &tables)
 }
 
 // ---- Parts
 
-pub fn row(input: &[u8], answer: &[u8]) -> usize {
+pub fn row(input: &[u8], expected: &mut Expected) -> Result<(), Differs> {
     let number = stream::long_at(input, 0) as usize;
-    stream::same_bytes(answer, 0, eeprom::alpha_row(stream::rest(input, 8), number))
+    expected.all_same(eeprom::alpha_row(stream::rest(input, 8), number))
 }
 
-fn same_part<'a>(answer: &[u8], subpage: u8, zero: &'a [Offset], one: &'a [Offset]) -> usize {
-    let which = if subpage == 0 {
-        Subpage::Zero
-    } else {
-        Subpage::One
-    };
-    stream::same_wholes(answer, 0, eeprom::subpage_offsets(zero, one, which))
-}
-
-pub fn subpage(input: &[u8], answer: &[u8]) -> usize {
+pub fn subpage(input: &[u8], expected: &mut Expected) -> Result<(), Differs> {
     let mut zero: [Offset; 200] = [0; 200];
     let mut one: [Offset; 200] = [0; 200];
-    stream::fill_wholes(input, 5, &mut zero);
-    stream::fill_wholes(input, 805, &mut one);
-    same_part(
-        answer,
-        stream::byte_at(input, 0),
-        stream::wholes(&zero, stream::size_at(input, 1)),
-        stream::wholes(&one, stream::size_at(input, 3)),
-    )
+    stream::fill(input, 5, &mut zero);
+    stream::fill(input, 805, &mut one);
+    let subpage = match stream::byte_at(input, 0) {
+        0 => Subpage::Zero,
+        _ => Subpage::One,
+    };
+    expected.all_same(eeprom::subpage_offsets(
+        stream::first(&zero, stream::size_at(input, 1)),
+        stream::first(&one, stream::size_at(input, 3)),
+        subpage,
+    ))
 }

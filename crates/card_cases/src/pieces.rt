@@ -1,49 +1,40 @@
 // A card in pieces: events, one after another, on one reading, one image and five tables.
 use crate::loads;
-use offsets::Offset;
+use crate::loads::Tables;
 use reader::{Answer, Image, Reading};
+use stream::{Differs, Expected};
 
-// Where the next event stands, how far the answers agree, the reading, and what its calls are given.
+// Where the next event stands, the reading, and what its calls are given.
 #[derive(Clone, Copy)]
 struct Turn {
     at: usize,
-    agreed: usize,
     reading: Reading,
     range: usize,
     lengths: [usize; 5],
 }
 
 fn first_turn() -> Turn {
-    let reading = reader::new();
-    let lengths = [map::PIXELS; 5];
     Turn {
         at: 0,
-        agreed: 0,
-        reading,
+        reading: reader::new(),
         range: map::BASIC_RANGE,
-        lengths,
+        lengths: [map::PIXELS; 5],
     }
 }
 
-fn same_answer(answer: &[u8], from: usize, said: Answer) -> usize {
-    let at = stream::same_flag(answer, from, said.more);
-    if said.more {
-        return at;
+fn same_answer(expected: &mut Expected, answer: Answer) -> Result<(), Differs> {
+    expected.same_flag(answer.is_none())?;
+    match answer {
+        Some(loaded) => loads::same_loaded(expected, loaded),
+        None => Ok(()),
     }
-    loads::same_loaded(answer, at, said.loaded)
 }
 
-fn same_reading(answer: &[u8], from: usize, reading: Reading) -> usize {
-    let said = reading.answer;
-    same_answer(answer, from, said)
-}
-
-// The reading after an event of so many bytes.
-fn turned(turn: Turn, size: usize, agreed: usize, reading: Reading) -> Turn {
+// The turn after an event of so many bytes.
+fn turned(turn: Turn, size: usize, reading: Reading) -> Turn {
     let lengths = turn.lengths;
     Turn {
         at: stream::after(turn.at, size),
-        agreed,
         reading,
         range: turn.range,
         lengths,
@@ -52,15 +43,11 @@ fn turned(turn: Turn, size: usize, agreed: usize, reading: Reading) -> Turn {
 
 fn take(
     input: &[u8],
-    answer: &[u8],
+    expected: &mut Expected,
     turn: Turn,
     image: &mut Image,
-    offsets0: &mut [Offset],
-    offsets1: &mut [Offset],
-    alpha: &mut [f32],
-    k_v: &mut [f32],
-    k_ta: &mut [f32],
-) -> Turn {
+    tables: &mut Tables,
+) -> Result<Turn, Differs> {
     let size = stream::size_at(input, stream::after(turn.at, 1));
     let lengths = turn.lengths;
     let taken = reader::take(
@@ -68,96 +55,82 @@ fn take(
         turn.reading,
         stream::bytes(input, stream::after(turn.at, 3), size),
         turn.range,
-        stream::wholes_mut(offsets0, lengths[0]),
-        stream::wholes_mut(offsets1, lengths[1]),
-        stream::reals_mut(alpha, lengths[2]),
-        stream::reals_mut(k_v, lengths[3]),
-        stream::reals_mut(k_ta, lengths[4]),
+        stream::first_mut(&mut tables.offsets0, lengths[0]),
+        stream::first_mut(&mut tables.offsets1, lengths[1]),
+        stream::first_mut(&mut tables.alpha, lengths[2]),
+        stream::first_mut(&mut tables.k_v, lengths[3]),
+        stream::first_mut(&mut tables.k_ta, lengths[4]),
     );
-    let agreed = same_answer(answer, turn.agreed, taken.answer);
-    turned(turn, stream::after(size, 3), agreed, taken.reading)
+    same_answer(expected, taken.answer)?;
+    Ok(turned(turn, stream::after(size, 3), taken.reading))
 }
 
-fn finish(answer: &[u8], turn: Turn) -> Turn {
+fn finish(expected: &mut Expected, turn: Turn) -> Result<Turn, Differs> {
     let reading = reader::finished(turn.reading);
-    turned(turn, 1, same_reading(answer, turn.agreed, reading), reading)
+    same_answer(expected, reading.answer)?;
+    Ok(turned(turn, 1, reading))
 }
 
-fn ask(answer: &[u8], turn: Turn) -> Turn {
+fn ask(expected: &mut Expected, turn: Turn) -> Result<Turn, Differs> {
     let reading = turn.reading;
-    let at = stream::same_size(answer, turn.agreed, reading.count);
-    turned(turn, 1, same_reading(answer, at, reading), reading)
+    expected.same_size(reading.count)?;
+    same_answer(expected, reading.answer)?;
+    Ok(turned(turn, 1, reading))
+}
+
+fn look(
+    expected: &mut Expected,
+    turn: Turn,
+    image: &Image,
+    tables: &Tables,
+) -> Result<Turn, Differs> {
+    loads::same_tables(expected, tables)?;
+    expected.all_same(image)?;
+    Ok(turned(turn, 1, turn.reading))
 }
 
 fn set(input: &[u8], turn: Turn) -> Turn {
-    let reading = turn.reading;
     let given = stream::rest(input, turn.at);
-    let lengths = [
-        stream::size_at(given, 9),
-        stream::size_at(given, 11),
-        stream::size_at(given, 13),
-        stream::size_at(given, 15),
-        stream::size_at(given, 17),
-    ];
     Turn {
         at: stream::after(turn.at, 19),
-        agreed: turn.agreed,
-        reading,
+        reading: turn.reading,
         range: stream::long_at(given, 1) as usize,
-        lengths,
+        lengths: [
+            stream::size_at(given, 9),
+            stream::size_at(given, 11),
+            stream::size_at(given, 13),
+            stream::size_at(given, 15),
+            stream::size_at(given, 17),
+        ],
     }
 }
 
 fn event(
     input: &[u8],
-    answer: &[u8],
+    expected: &mut Expected,
     turn: Turn,
     image: &mut Image,
-    offsets0: &mut [Offset],
-    offsets1: &mut [Offset],
-    alpha: &mut [f32],
-    k_v: &mut [f32],
-    k_ta: &mut [f32],
-) -> Turn {
+    tables: &mut Tables,
+) -> Result<Turn, Differs> {
     match stream::byte_at(input, turn.at) {
-        0 => take(
-            input, answer, turn, image, offsets0, offsets1, alpha, k_v, k_ta,
-        ),
-        1 => finish(answer, turn),
-        2 => ask(answer, turn),
-        3 => {
-            let mut at = turn.agreed;
-            at = loads::same_tables(answer, at, offsets0, offsets1, alpha, k_v, k_ta);
-            turned(turn, 1, stream::same_bytes(answer, at, image), turn.reading)
-        }
-        4 => set(input, turn),
-        _ => turned(turn, 1, stream::FAILED, turn.reading),
+        0 => take(input, expected, turn, image, tables),
+        1 => finish(expected, turn),
+        2 => ask(expected, turn),
+        3 => look(expected, turn, image, tables),
+        4 => Ok(set(input, turn)),
+        _ => Err(Differs),
     }
 }
 
-pub fn pieces(input: &[u8], answer: &[u8]) -> usize {
+pub fn pieces(input: &[u8], expected: &mut Expected) -> Result<(), Differs> {
     let mut image = [77u8; 1664];
-    let mut offsets0: [Offset; 200] = [77; 200];
-    let mut offsets1: [Offset; 200] = [77; 200];
-    let mut alpha = [77.0f32; 200];
-    let mut k_v = [77.0f32; 200];
-    let mut k_ta = [77.0f32; 200];
+    let mut tables = loads::tables_before();
     let mut turn = first_turn();
     for _ in 0..65536usize {
         if input.len() <= turn.at {
             break;
         }
-        turn = event(
-            input,
-            answer,
-            turn,
-            &mut image,
-            &mut offsets0,
-            &mut offsets1,
-            &mut alpha,
-            &mut k_v,
-            &mut k_ta,
-        );
+        turn = event(input, expected, turn, &mut image, &mut tables)?;
     }
-    turn.agreed
+    Ok(())
 }

@@ -4,69 +4,72 @@
 // bytes`. If the card is refused or reading failed, nothing is written to standard output.
 #![tactic(auto)]
 
-use console::{say, say_number};
+use console::Failure;
 use listing::CHECKED_WORDS;
-use refusal::Verdict;
 use scrub::Counts;
+use std::fmt;
+use std::io::Stdin;
 
-fn word_line(word: u16, what: &[u8]) {
-    say(b"word");
-    say_number(word as u64);
-    say(what);
+// The outcome of a scrub, as its last line says.
+#[derive(Clone, Copy, Debug, PartialEq, Eq)]
+enum Outcome {
+    Clean,
+    Mended(usize),
+    Damaged { damaged: usize, mended: usize },
 }
 
-// Writes a line for each of the first `count` words of a list, or for all if it has fewer.
-fn word_lines(list: &[u16], count: usize, what: &[u8]) {
-    for index in 0..count {
-        if index < list.len() {
-            word_line(list[index], what);
+impl From<Counts> for Outcome {
+    fn from(counts: Counts) -> Outcome {
+        match (counts.damaged, counts.changed) {
+            (0, 0) => Outcome::Clean,
+            (0, mended) => Outcome::Mended(mended),
+            (damaged, mended) => Outcome::Damaged { damaged, mended },
         }
     }
 }
 
-fn last_line(counts: Counts) {
-    if 0 < counts.damaged {
-        say(b"damaged");
-        say_number(counts.damaged as u64);
-        say(b", mended");
-        say_number(counts.changed as u64);
-    } else if 0 < counts.changed {
-        say(b"mended");
-        say_number(counts.changed as u64);
-    } else {
-        say(b"clean");
+impl fmt::Display for Outcome {
+    fn fmt<W: fmt::Write>(&self, f: &mut fmt::Formatter<W>) -> fmt::Result {
+        match self {
+            Outcome::Clean => f.write_str("clean"),
+            Outcome::Mended(mended) => write!(f, "mended {mended}"),
+            Outcome::Damaged { damaged, mended } => {
+                write!(f, "damaged {damaged}, mended {mended}")
+            }
+        }
     }
-    say(b"\n");
 }
 
-fn scrub_card(card: &mut [u8]) {
+// Writes a line for each of the first `count` words of a list.
+fn word_lines(list: &[u16], count: usize, what: &str) {
+    for word in list.iter().take(count) {
+        console::say(format_args!("word {word} {what}"));
+    }
+}
+
+fn scrub_card(card: &mut [u8]) -> Result<(), Failure> {
     let mut changed = [0u16; CHECKED_WORDS];
     let mut damaged = [0u16; CHECKED_WORDS];
-    let scrubbed = scrub::scrub(card, &mut changed, &mut damaged);
-    let verdict = scrubbed.verdict;
-    let counts = scrubbed.counts;
-    let Verdict::Pass = verdict else {
-        console::refused(verdict.told());
-        return;
-    };
-    if console::put(card) {
-        word_lines(&changed, counts.changed, b" mended\n");
-        word_lines(&damaged, counts.damaged, b" damaged\n");
-        last_line(counts);
+    let counts = scrub::scrub(card, &mut changed, &mut damaged)?;
+    console::put(card)?;
+    word_lines(&changed, counts.changed, "mended");
+    word_lines(&damaged, counts.damaged, "damaged");
+    console::say(Outcome::from(counts));
+    Ok(())
+}
+
+fn run(input: Stdin) -> Result<(), Failure> {
+    let mut buffer = io::large_buffer();
+    let n = io::read_full(console::STDIN, &mut buffer);
+    if console::ended(input) {
+        scrub_card(&mut buffer[..n])
+    } else if n < buffer.len() {
+        Err(Failure::Reading)
     } else {
-        console::failed_writing();
+        Err(Failure::Longer)
     }
 }
 
 fn main(rt: HostRuntime) {
-    let mut buffer = io::large_buffer();
-    let n = io::read_full(console::STDIN, &mut buffer);
-    let room = buffer.len();
-    if console::ended(rt.stdin()) {
-        scrub_card(&mut buffer[..n]);
-    } else if n < room {
-        console::failed_reading();
-    } else {
-        console::failed_longer();
-    }
+    console::end(run(rt.stdin()));
 }

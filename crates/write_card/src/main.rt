@@ -7,20 +7,64 @@
 
 mod text;
 
-ghost use Rattle.std.specs.Prelude.{◌≤◌};
+ghost use Rattle.std.specs.Prelude.{◌≤◌, MatchResult};
 
+use console::Failure;
 use listing::{CHECKED_WORDS, UNCHECKED_WORDS};
 use map::{IMAGE_BYTES, WORDS};
-use refusal::{Told, Verdict};
+use refusal::Refusal;
+use std::fmt;
+use std::io::Stdin;
 
-fn refused_line(line: u64) {
-    console::say(b"refused line");
-    console::say_number(line);
-    console::say(b"\n");
+// Why no card is written.
+#[derive(Clone, Copy, Debug, PartialEq, Eq)]
+enum Stop {
+    // A line that is not a word, or is too many.
+    Line(u64),
+    // Data of a line that do not fit a chip word.
+    Data { line: u64, data: u16 },
+    Failed(Failure),
+}
+
+impl From<Failure> for Stop {
+    fn from(failure: Failure) -> Stop {
+        Stop::Failed(failure)
+    }
+}
+
+impl From<fmt::Error> for Stop {
+    fn from(error: fmt::Error) -> Stop {
+        Stop::Failed(Failure::from(error))
+    }
+}
+
+// Data that are too large are refused by their line, anything else as it is.
+impl From<Refusal> for Stop {
+    fn from(refusal: Refusal) -> Stop {
+        match refusal {
+            Refusal::ListedDataTooLarge { index, data } => Stop::Data {
+                line: line_of(index as u64),
+                data,
+            },
+            _ => Stop::Failed(Failure::Refused(refusal)),
+        }
+    }
+}
+
+impl fmt::Display for Stop {
+    fn fmt<W: fmt::Write>(&self, f: &mut fmt::Formatter<W>) -> fmt::Result {
+        match self {
+            Stop::Line(line) => write!(f, "refused line {line}"),
+            Stop::Data { line, data } => {
+                write!(f, "refused line {line}: data {data} is above 2047")
+            }
+            Stop::Failed(failure) => write!(f, "{failure}"),
+        }
+    }
 }
 
 // The number of entries filled in each list.
-#[derive(Clone, Copy)]
+#[derive(Clone, Copy, Debug, PartialEq, Eq)]
 struct Filled {
     data: usize,
     others: usize,
@@ -28,8 +72,10 @@ struct Filled {
 
 // Appends a word to its list, if that has room.
 fn put(filled: Filled, checked: bool, word: u16, data: &mut [u16], others: &mut [u16]) -> Filled {
-    let index = filled.data;
-    let other = filled.others;
+    let Filled {
+        data: index,
+        others: other,
+    } = filled;
     if checked {
         if index < data.len() {
             data[index] = word;
@@ -38,127 +84,93 @@ fn put(filled: Filled, checked: bool, word: u16, data: &mut [u16], others: &mut 
                 others: other,
             };
         }
-    } else {
-        if other < others.len() {
-            others[other] = word;
-            return Filled {
-                data: index,
-                others: other + 1,
-            };
-        }
+    } else if other < others.len() {
+        others[other] = word;
+        return Filled {
+            data: index,
+            others: other + 1,
+        };
     }
     filled
 }
 
-// The number of lines read, whether all of them are words, and the number of entries filled in the lists.
-#[derive(Clone, Copy)]
+// The number of lines read, and the number of entries filled in the lists.
+#[derive(Clone, Copy, Debug, PartialEq, Eq)]
 struct Lines {
     count: usize,
-    good: bool,
     filled: Filled,
 }
 
-fn read_lines(text: &[u8], data: &mut [u16], others: &mut [u16]) -> Lines
-    ensures { result.count ≤ 832 }
+// Reads the words of all lines. Otherwise returns the number of lines before the first that is not a word or is too many.
+fn read_lines(text: &[u8], data: &mut [u16], others: &mut [u16]) -> Result<Lines, usize>
+    ensures { MatchResult result (λ lines. lines.count ≤ 832) (λ before. before ≤ 832) }
 {
     let mut start: usize = 0;
     let mut count: usize = 0;
     let mut filled = Filled { data: 0, others: 0 };
     while start < text.len() {
         if count == WORDS {
-            return Lines {
-                count,
-                good: false,
-                filled,
-            };
+            return Err(count);
         }
         let line = text::line_at(text, start);
-        let word = line.word;
-        if text::NO_WORD <= word {
-            return Lines {
-                count,
-                good: false,
-                filled,
-            };
-        }
-        filled = put(filled, map::is_checked(count), word as u16, data, others);
+        let Some(word) = line.word else {
+            return Err(count);
+        };
+        filled = put(filled, map::is_checked(count), word, data, others);
         count += 1;
         start = line.next;
     }
-    Lines {
-        count,
-        good: true,
-        filled,
-    }
+    Ok(Lines { count, filled })
 }
 
 // Returns the first `count` entries of a list, or all of it if it is shorter.
 fn firsts(list: &[u16], count: usize) -> &[u16] {
-    if count <= list.len() {
-        &list[0..count]
-    } else {
-        list
-    }
+    let end = count.min(list.len());
+    &list[..end]
 }
 
 // Returns the number, from 1 on, of the line of a data entry: the data are words 16 to 18 and those from 21 on.
 fn line_of(index: u64) -> u64 {
-    if index < 3 {
-        return index + 17;
+    match index {
+        0..=2 => index + 17,
+        3..=813 => index + 19,
+        _ => 0,
     }
-    if index < 814 {
-        return index + 19;
-    }
-    0
 }
 
-// Writes a refusal: data that are too large by their line, any other as it is.
-fn refused(told: Told) {
-    if told.number != 9 {
-        console::refused(told);
-        return;
-    }
-    console::say(b"refused line");
-    console::say_number(line_of(told.place));
-    console::say(b": data");
-    console::say_number(told.value);
-    console::say(b" is above 2047\n");
-}
-
-// Writes the card of two lists, or the refusal.
-fn write_lists(data: &[u16], others: &[u16]) {
+// Writes the card of two lists.
+fn write_lists(data: &[u16], others: &[u16]) -> Result<(), Stop> {
     let mut image = [0u8; IMAGE_BYTES];
-    let verdict = writer::write(data, others, &mut image);
-    let Verdict::Pass = verdict else {
-        refused(verdict.told());
-        return;
-    };
-    console::went(console::put(&image), verdict);
+    writer::write(data, others, &mut image)?;
+    console::put(&image)?;
+    Ok(())
 }
 
 // Writes the card of a text. `cut` says that the text filled the buffer.
-fn write_text(text: &[u8], cut: bool) {
+fn write_text(text: &[u8], cut: bool) -> Result<(), Stop> {
     let mut data = [0u16; CHECKED_WORDS];
     let mut others = [0u16; UNCHECKED_WORDS];
-    let lines = read_lines(text, &mut data, &mut others);
-    let count = lines.count;
-    let filled = lines.filled;
-    if !lines.good {
-        refused_line(count as u64 + 1);
-    } else if cut {
-        refused_line(count as u64);
-    } else {
-        write_lists(firsts(&data, filled.data), firsts(&others, filled.others));
+    let lines = match read_lines(text, &mut data, &mut others) {
+        Ok(lines) => lines,
+        Err(before) => return Err(Stop::Line(before as u64 + 1)),
+    };
+    if cut {
+        return Err(Stop::Line(lines.count as u64));
     }
+    let filled = lines.filled;
+    write_lists(firsts(&data, filled.data), firsts(&others, filled.others))
 }
 
-fn main(rt: HostRuntime) {
+fn run(input: Stdin) -> Result<(), Stop> {
     let mut buffer = io::large_buffer();
     let n = io::read_full(console::STDIN, &mut buffer);
     let room = buffer.len();
-    if console::whole(rt.stdin(), n, room) {
-        write_text(&buffer[..n], n == room);
-    } else {
-        console::failed_reading();
+    console::whole(input, n, room)?;
+    write_text(&buffer[..n], n == room)
+}
+
+fn main(rt: HostRuntime) {
+    if let Err(stop) = run(rt.stdin()) {
+        console::say(stop);
     }
 }
