@@ -45,7 +45,7 @@ pub struct Part {
     pub length: usize,
 }
 
-// Returns a refusal's numbers, a record and the mended words as C has them.
+// Returns a refusal's numbers, a record and the mended words as C has them. A function, since a `From` has one argument.
 fn load_of(told: Told, calibration: Calibration, mending: Mending) -> Load
     ensures { result ≡ load_of told calibration mending }
 {
@@ -55,22 +55,24 @@ fn load_of(told: Told, calibration: Calibration, mending: Mending) -> Load
         value: told.value,
         mended: mending.count,
         last_mended: mending.last,
-        calibration: capi_record::record_out(calibration),
+        calibration: calibration.into(),
     }
 }
 
-// Returns the result of a load as C has it; after a refusal the record is all zero and no word counts as mended.
-pub fn load_out(loaded: Result<Loaded, Refusal>) -> Load
-    ensures { result ≡ loaded_out loaded }
-{
-    match loaded {
-        Ok(loaded) => {
-            let told = refusal::verdict_told(Ok(()));
-            load_of(told, loaded.calibration, loaded.mending)
-        }
-        Err(refusal) => {
-            let told = refusal.told();
-            load_of(told, calibration::no_calibration(), card::no_mending())
+// The result of a load as C has it. After a refusal the record is all zero and no word counts as mended.
+impl From<Result<Loaded, Refusal>> for Load {
+    ghost from_gives = { λ loaded result. result ≡ loaded_out loaded };
+
+    fn from(loaded: Result<Loaded, Refusal>) -> Load {
+        match loaded {
+            Ok(loaded) => {
+                let told = refusal::verdict_told(Ok(()));
+                load_of(told, loaded.calibration, loaded.mending)
+            }
+            Err(refusal) => {
+                let told = refusal.told();
+                load_of(told, calibration::no_calibration(), card::no_mending())
+            }
         }
     }
 }
@@ -90,19 +92,20 @@ pub extern "C" fn loamchalice_load(
     ensures { Loading image.now basic_range (tables offsets0.old offsets1.old alpha.old k_v.old k_ta.old)
         (tables offsets0.new offsets1.new alpha.new k_v.new k_ta.new) result }
 {
-    let loaded = eeprom::load(image, basic_range, offsets0, offsets1, alpha, k_v, k_ta);
-    load_out(loaded)
+    eeprom::load(image, basic_range, offsets0, offsets1, alpha, k_v, k_ta).into()
 }
 
-// Returns a verdict as C has it.
-pub fn said(verdict: Verdict) -> Outcome
-    ensures { result ≡ outcome_of verdict }
-{
-    let told = refusal::verdict_told(verdict);
-    Outcome {
-        number: told.number,
-        place: told.place,
-        value: told.value,
+// A verdict as C has it.
+impl From<Verdict> for Outcome {
+    ghost from_gives = { λ verdict result. result ≡ outcome_of verdict };
+
+    fn from(verdict: Verdict) -> Outcome {
+        let told = refusal::verdict_told(verdict);
+        Outcome {
+            number: told.number,
+            place: told.place,
+            value: told.value,
+        }
     }
 }
 
@@ -112,7 +115,7 @@ pub fn said(verdict: Verdict) -> Outcome
 pub extern "C" fn loamchalice_write(data: &[u16], others: &[u16], image: &mut [u8]) -> Outcome
     ensures { Writing (lists «data».now others.now) image.old image.new result }
 {
-    said(writer::write(data, others, image))
+    writer::write(data, others, image).into()
 }
 
 // Reads the data of a card's 814 checked words and its 18 unchecked words. Refusals 1, 2, 3; after one the lists are unchanged. Entries past 814 and 18 are
@@ -125,7 +128,7 @@ pub extern "C" fn loamchalice_read_words(
 ) -> Outcome
     ensures { Reading image.now (lists «data».old others.old) (lists «data».new others.new) result }
 {
-    said(listing::read_words(image, data, others))
+    listing::read_words(image, data, others).into()
 }
 
 // Returns the position of the 64 bytes of a row of alpha in the image; 0 and 0 for a row above 5 or an image below 1,664 bytes.

@@ -48,16 +48,18 @@ pub extern "C" fn loamchalice_filter_push(filter: Filter, reading: i16) -> Filte
     filter::push(filter, reading)
 }
 
-// Returns what a filter returned, as C has it.
-fn average_out(steadied: Option<f32>) -> Average
-    ensures { result ≡ average_out steadied }
-{
-    match steadied {
-        None => Average {
-            average: 0.0,
-            ready: 0,
-        },
-        Some(average) => Average { average, ready: 1 },
+// What a filter returned, as C has it.
+impl From<Option<f32>> for Average {
+    ghost from_gives = { λ steadied result. result ≡ average_out steadied };
+
+    fn from(steadied: Option<f32>) -> Average {
+        match steadied {
+            None => Average {
+                average: 0.0,
+                ready: 0,
+            },
+            Some(average) => Average { average, ready: 1 },
+        }
     }
 }
 
@@ -66,29 +68,33 @@ fn average_out(steadied: Option<f32>) -> Average
 pub extern "C" fn loamchalice_filter_average(filter: Filter) -> Average
     ensures { result ≡ average_out (average_of filter) }
 {
-    average_out(filter::average(filter))
+    filter::average(filter).into()
 }
 
-// Returns what a filter returned, from C's: `ready` 0 is `None`.
-pub fn steadied_in(average: Average) -> Option<f32>
-    ensures { result ≡ steadied_in average }
-{
-    if average.ready == 0 {
-        None
-    } else {
-        Some(average.average)
+// What a filter returned, from C's: `ready` 0 is `None`.
+impl From<Average> for Option<f32> {
+    ghost from_gives = { λ average result. result ≡ steadied_in average };
+
+    fn from(average: Average) -> Option<f32> {
+        if average.ready == 0 {
+            None
+        } else {
+            Some(average.average)
+        }
     }
 }
 
-// Returns the inputs that the inner calls take, from C's.
-fn filtered_in(filtered: Filtered) -> FilteredInput
-    ensures { result ≡ filtered_in filtered }
-{
-    let input = filtered.input;
-    let compensation = filtered.compensation;
-    FilteredInput {
-        input: capi_frames::input_in(input),
-        compensation: steadied_in(compensation),
+// The inputs that the inner calls take, from C's.
+impl From<Filtered> for FilteredInput {
+    ghost from_gives = { λ filtered result. result ≡ filtered_in filtered };
+
+    fn from(filtered: Filtered) -> FilteredInput {
+        let input = filtered.input;
+        let compensation = filtered.compensation;
+        FilteredInput {
+            input: input.into(),
+            compensation: compensation.into(),
+        }
     }
 }
 
@@ -108,8 +114,8 @@ pub extern "C" fn loamchalice_filtered_pixels_to_ir_data<'a>(
     ensures { Carried (Infrareds (ir_call (record_in calibration) (filtered_in filtered).input (steadied (filtered_in filtered).compensation (filtered_in filtered).input.ram) offsets0.now offsets1.now k_v.now k_ta.now pixels.now mask.now)
         destination.old destination.new) result }
 {
-    let record = capi_record::record_in(calibration);
-    let inner = filtered_in(filtered);
+    let record = calibration.into();
+    let inner = filtered.into();
     let frame = calculations::filtered_pixels_to_ir_data(
         record,
         inner,
@@ -121,7 +127,7 @@ pub extern "C" fn loamchalice_filtered_pixels_to_ir_data<'a>(
         mask,
         destination,
     );
-    capi_frames::frame_out(frame)
+    frame.into()
 }
 
 // Writes temperatures in one pass as the plain call does, with the filter's average. Refusals 2, 10, 6, 7, 8; after one the destination is unchanged.
@@ -141,8 +147,8 @@ pub extern "C" fn loamchalice_filtered_pixels_to_temperatures<'a>(
     ensures { Carried (Passes (pass_call (record_in calibration) (ir_call (record_in calibration) (filtered_in filtered).input (steadied (filtered_in filtered).compensation (filtered_in filtered).input.ram) offsets0.now offsets1.now k_v.now k_ta.now pixels.now mask.now) alpha.now)
         destination.old destination.new) result }
 {
-    let record = capi_record::record_in(calibration);
-    let inner = filtered_in(filtered);
+    let record = calibration.into();
+    let inner = filtered.into();
     let frame = calculations::filtered_pixels_to_temperatures(
         record,
         inner,
@@ -155,7 +161,7 @@ pub extern "C" fn loamchalice_filtered_pixels_to_temperatures<'a>(
         mask,
         destination,
     );
-    capi_frames::frame_out(frame)
+    frame.into()
 }
 
 // Writes temperatures by the second pass as the plain call does, with the filter's average. Refusals 2, 10, 6, 7, 8, 12; after one the destination is
@@ -176,8 +182,8 @@ pub extern "C" fn loamchalice_filtered_pixels_to_ranged_temperatures<'a>(
     ensures { Carried (RangedPasses (pass_call (record_in calibration) (ir_call (record_in calibration) (filtered_in filtered).input (steadied (filtered_in filtered).compensation (filtered_in filtered).input.ram) offsets0.now offsets1.now k_v.now k_ta.now pixels.now mask.now) alpha.now)
         destination.old destination.new) result }
 {
-    let record = capi_record::record_in(calibration);
-    let inner = filtered_in(filtered);
+    let record = calibration.into();
+    let inner = filtered.into();
     let frame = calculations::filtered_pixels_to_ranged_temperatures(
         record,
         inner,
@@ -190,5 +196,5 @@ pub extern "C" fn loamchalice_filtered_pixels_to_ranged_temperatures<'a>(
         mask,
         destination,
     );
-    capi_frames::frame_out(frame)
+    frame.into()
 }

@@ -23,15 +23,17 @@ pub struct Filtered640 {
     pub compensation: Average,
 }
 
-// Returns the inputs that the inner calls take, from C's.
-fn filtered_in(filtered: Filtered640) -> FilteredInput
-    ensures { result ≡ filtered_in filtered }
-{
-    let input = filtered.input;
-    let compensation = filtered.compensation;
-    FilteredInput {
-        input: capi_frames640::input_in(input),
-        compensation: capi_filter::steadied_in(compensation),
+// The inputs that the inner calls take, from C's.
+impl From<Filtered640> for FilteredInput {
+    ghost from_gives = { λ filtered result. result ≡ filtered_in filtered };
+
+    fn from(filtered: Filtered640) -> FilteredInput {
+        let input = filtered.input;
+        let compensation = filtered.compensation;
+        FilteredInput {
+            input: input.into(),
+            compensation: compensation.into(),
+        }
     }
 }
 
@@ -49,8 +51,8 @@ pub extern "C" fn loamchalice_mlx90640_filtered_pixels_to_ir_data(
     ensures { Carried (Infrareds (ir_call (record_in calibration) (filtered_in filtered).input (steadied (filtered_in filtered).compensation (filtered_in filtered).input.ram) offsets.now k_ta.now pixels.now mask.now)
         destination.old destination.new) result }
 {
-    let record = capi_record640::record_in(calibration);
-    let inner = filtered_in(filtered);
+    let record = calibration.into();
+    let inner = filtered.into();
     let frame = frames640::filtered_pixels_to_ir_data(
         record,
         inner,
@@ -60,7 +62,7 @@ pub extern "C" fn loamchalice_mlx90640_filtered_pixels_to_ir_data(
         mask,
         destination,
     );
-    capi_frames::frame_out(frame)
+    frame.into()
 }
 
 // Writes temperatures in one pass as the plain call does, with the filter's average. Refusals 2, 10, 6, 7, 8; after one the destination is unchanged.
@@ -78,8 +80,8 @@ pub extern "C" fn loamchalice_mlx90640_filtered_pixels_to_temperatures(
     ensures { Carried (Passes (pass_call (record_in calibration) (ir_call (record_in calibration) (filtered_in filtered).input (steadied (filtered_in filtered).compensation (filtered_in filtered).input.ram) offsets.now k_ta.now pixels.now mask.now) alpha.now)
         destination.old destination.new) result }
 {
-    let record = capi_record640::record_in(calibration);
-    let inner = filtered_in(filtered);
+    let record = calibration.into();
+    let inner = filtered.into();
     let frame = frames640::filtered_pixels_to_temperatures(
         record,
         inner,
@@ -90,7 +92,7 @@ pub extern "C" fn loamchalice_mlx90640_filtered_pixels_to_temperatures(
         mask,
         destination,
     );
-    capi_frames::frame_out(frame)
+    frame.into()
 }
 
 // Writes temperatures by the second pass as the plain call does, with the filter's average. Refusals 2, 10, 6, 7, 8, 12; after one the destination is
@@ -109,8 +111,8 @@ pub extern "C" fn loamchalice_mlx90640_filtered_pixels_to_ranged_temperatures(
     ensures { Carried (RangedPasses (pass_call (record_in calibration) (ir_call (record_in calibration) (filtered_in filtered).input (steadied (filtered_in filtered).compensation (filtered_in filtered).input.ram) offsets.now k_ta.now pixels.now mask.now) alpha.now)
         destination.old destination.new) result }
 {
-    let record = capi_record640::record_in(calibration);
-    let inner = filtered_in(filtered);
+    let record = calibration.into();
+    let inner = filtered.into();
     let frame = frames640::filtered_pixels_to_ranged_temperatures(
         record,
         inner,
@@ -121,5 +123,5 @@ pub extern "C" fn loamchalice_mlx90640_filtered_pixels_to_ranged_temperatures(
         mask,
         destination,
     );
-    capi_frames::frame_out(frame)
+    frame.into()
 }

@@ -60,72 +60,80 @@ pub struct Answer {
     pub t_a: u32,
 }
 
-// Returns the readings that the inner calls take, from C's.
-pub fn ram_in(ram: Ram) -> RamData
-    ensures { result ≡ ram_in ram }
-{
-    RamData {
-        t_a_v_be: ram.t_a_v_be,
-        t_a_ptat: ram.t_a_ptat,
-        v_dd_pixel: ram.v_dd_pixel,
-        gain: ram.gain,
-        compensation_pixel: ram.compensation_pixel,
-    }
-}
+// The readings that the inner calls take, from C's.
+impl From<Ram> for RamData {
+    ghost from_gives = { λ ram result. result ≡ ram_in ram };
 
-// Returns the settings that the inner calls take, from C's.
-pub fn settings_in(settings: Settings) -> formulas::Settings
-    ensures { result ≡ settings_in settings }
-{
-    let reflected = if settings.reflected_given == 0 {
-        Reflected::Ambient {
-            self_heating: settings.self_heating,
+    fn from(ram: Ram) -> RamData {
+        RamData {
+            t_a_v_be: ram.t_a_v_be,
+            t_a_ptat: ram.t_a_ptat,
+            v_dd_pixel: ram.v_dd_pixel,
+            gain: ram.gain,
+            compensation_pixel: ram.compensation_pixel,
         }
-    } else {
-        Reflected::Given(settings.reflected)
-    };
-    formulas::Settings {
-        emissivity: settings.emissivity,
-        resolution_correction: settings.resolution_correction,
-        v_dd_0: settings.v_dd_0,
-        basic_range: settings.basic_range,
-        reflected,
     }
 }
 
-// Returns the inputs that the inner calls take, from C's.
-pub fn input_in(input: Input) -> calculations::Input
-    ensures { result ≡ input_in input }
-{
-    let settings = input.settings;
-    let ram = input.ram;
-    calculations::Input {
-        settings: settings_in(settings),
-        ram: ram_in(ram),
-        subpage: capi_record::subpage_of(input.subpage),
+// The settings that the inner calls take, from C's.
+impl From<Settings> for formulas::Settings {
+    ghost from_gives = { λ settings result. result ≡ settings_in settings };
+
+    fn from(settings: Settings) -> formulas::Settings {
+        let reflected = if settings.reflected_given == 0 {
+            Reflected::Ambient {
+                self_heating: settings.self_heating,
+            }
+        } else {
+            Reflected::Given(settings.reflected)
+        };
+        formulas::Settings {
+            emissivity: settings.emissivity,
+            resolution_correction: settings.resolution_correction,
+            v_dd_0: settings.v_dd_0,
+            basic_range: settings.basic_range,
+            reflected,
+        }
     }
 }
 
-// Returns a frame's result as C has it.
-pub fn frame_out(frame: Result<Frame, Refusal>) -> Answer
-    ensures { result ≡ frame_out frame }
-{
-    match frame {
-        Ok(Frame { t_a, lost }) => Answer {
-            number: 0,
-            place: 0,
-            value: 0,
-            lost,
-            t_a,
-        },
-        Err(refusal) => {
-            let told = refusal.told();
-            Answer {
-                number: told.number,
-                place: told.place,
-                value: told.value,
-                lost: 0,
-                t_a: 0,
+// The inputs that the inner calls take, from C's.
+impl From<Input> for calculations::Input {
+    ghost from_gives = { λ input result. result ≡ input_in input };
+
+    fn from(input: Input) -> calculations::Input {
+        let settings = input.settings;
+        let ram = input.ram;
+        calculations::Input {
+            settings: settings.into(),
+            ram: ram.into(),
+            subpage: capi_record::subpage_of(input.subpage),
+        }
+    }
+}
+
+// A frame's result as C has it.
+impl From<Result<Frame, Refusal>> for Answer {
+    ghost from_gives = { λ frame result. result ≡ frame_out frame };
+
+    fn from(frame: Result<Frame, Refusal>) -> Answer {
+        match frame {
+            Ok(Frame { t_a, lost }) => Answer {
+                number: 0,
+                place: 0,
+                value: 0,
+                lost,
+                t_a,
+            },
+            Err(refusal) => {
+                let told = refusal.told();
+                Answer {
+                    number: told.number,
+                    place: told.place,
+                    value: told.value,
+                    lost: 0,
+                    t_a: 0,
+                }
             }
         }
     }
@@ -147,8 +155,8 @@ pub extern "C" fn loamchalice_raw_pixels_to_ir_data<'a>(
     ensures { Carried (Infrareds (ir_call (record_in calibration) (input_in input) (own_reading (input_in input).ram) offsets0.now offsets1.now k_v.now k_ta.now pixels.now mask.now)
         destination.old destination.new) result }
 {
-    let record = capi_record::record_in(calibration);
-    let inner = input_in(input);
+    let record = calibration.into();
+    let inner = input.into();
     let frame = calculations::raw_pixels_to_ir_data(
         record,
         inner,
@@ -160,7 +168,7 @@ pub extern "C" fn loamchalice_raw_pixels_to_ir_data<'a>(
         mask,
         destination,
     );
-    frame_out(frame)
+    frame.into()
 }
 
 // Turns infrared values into temperatures, in place, both as f32 bits. Refusals 2, 10, 6, 8; after one the destination is unchanged.
@@ -176,10 +184,10 @@ pub extern "C" fn loamchalice_raw_ir_to_temperatures(
     ensures { Carried (Temperatures (to_call (record_in calibration) (settings_in settings) t_a alpha.now mask.now)
         destination.old destination.new) result }
 {
-    let record = capi_record::record_in(calibration);
-    let inner = settings_in(settings);
+    let record = calibration.into();
+    let inner = settings.into();
     let frame = calculations::raw_ir_to_temperatures(record, inner, t_a, alpha, mask, destination);
-    frame_out(frame)
+    frame.into()
 }
 
 // Writes the bits of the pixels' temperatures into the destination, in one pass. Refusals 2, 10, 6, 7, 8; after one the destination is unchanged.
@@ -199,8 +207,8 @@ pub extern "C" fn loamchalice_raw_pixels_to_temperatures<'a>(
     ensures { Carried (Passes (pass_call (record_in calibration) (ir_call (record_in calibration) (input_in input) (own_reading (input_in input).ram) offsets0.now offsets1.now k_v.now k_ta.now pixels.now mask.now) alpha.now)
         destination.old destination.new) result }
 {
-    let record = capi_record::record_in(calibration);
-    let inner = input_in(input);
+    let record = calibration.into();
+    let inner = input.into();
     let frame = calculations::raw_pixels_to_temperatures(
         record,
         inner,
@@ -213,7 +221,7 @@ pub extern "C" fn loamchalice_raw_pixels_to_temperatures<'a>(
         mask,
         destination,
     );
-    frame_out(frame)
+    frame.into()
 }
 
 // The second pass: writes the bits of the pixels' temperatures, each computed by the range that holds its basic temperature. Refusals 2, 10, 6, 7, 8, 12;
@@ -234,8 +242,8 @@ pub extern "C" fn loamchalice_raw_pixels_to_ranged_temperatures<'a>(
     ensures { Carried (RangedPasses (pass_call (record_in calibration) (ir_call (record_in calibration) (input_in input) (own_reading (input_in input).ram) offsets0.now offsets1.now k_v.now k_ta.now pixels.now mask.now) alpha.now)
         destination.old destination.new) result }
 {
-    let record = capi_record::record_in(calibration);
-    let inner = input_in(input);
+    let record = calibration.into();
+    let inner = input.into();
     let frame = calculations::raw_pixels_to_ranged_temperatures(
         record,
         inner,
@@ -248,5 +256,5 @@ pub extern "C" fn loamchalice_raw_pixels_to_ranged_temperatures<'a>(
         mask,
         destination,
     );
-    frame_out(frame)
+    frame.into()
 }

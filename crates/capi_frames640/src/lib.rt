@@ -27,7 +27,8 @@ pub struct Input640 {
     pub pattern: u8,
 }
 
-// Returns the access pattern of a number: 0 is interleave, any other number chess.
+// Returns the access pattern of a number: 0 is interleave, any other number chess. A function, since a `From` between two types of other crates is not this
+// crate's to write.
 fn pattern_of(pattern: u8) -> Pattern
     ensures { result ≡ pattern_of pattern }
 {
@@ -38,17 +39,19 @@ fn pattern_of(pattern: u8) -> Pattern
     }
 }
 
-// Returns the inputs that the inner calls take, from C's.
-pub fn input_in(input: Input640) -> frames640::Input
-    ensures { result ≡ input_in input }
-{
-    let settings = input.settings;
-    let ram = input.ram;
-    frames640::Input {
-        settings: capi_frames::settings_in(settings),
-        ram: capi_frames::ram_in(ram),
-        subpage: capi_record::subpage_of(input.subpage),
-        pattern: pattern_of(input.pattern),
+// The inputs that the inner calls take, from C's.
+impl From<Input640> for frames640::Input {
+    ghost from_gives = { λ input result. result ≡ input_in input };
+
+    fn from(input: Input640) -> frames640::Input {
+        let settings = input.settings;
+        let ram = input.ram;
+        frames640::Input {
+            settings: settings.into(),
+            ram: ram.into(),
+            subpage: capi_record::subpage_of(input.subpage),
+            pattern: pattern_of(input.pattern),
+        }
     }
 }
 
@@ -63,7 +66,7 @@ pub extern "C" fn loamchalice_mlx90640_subpage_mask(
 {
     let which = capi_record::subpage_of(subpage);
     let order = pattern_of(pattern);
-    capi_cards::said(rows640::write_mask(which, order, mask))
+    rows640::write_mask(which, order, mask).into()
 }
 
 // Turns a subpage's infrared values into temperatures, in place, both as f32 bits. The ambient temperature is the caller's, and is returned. Refusals 2, 10,
@@ -81,8 +84,8 @@ pub extern "C" fn loamchalice_mlx90640_raw_ir_to_temperatures(
     ensures { Carried (Temperatures (to_call (record_in calibration) (settings_in settings) (subpage_of subpage) t_a alpha.now mask.now)
         destination.old destination.new) result }
 {
-    let record = capi_record640::record_in(calibration);
-    let inner = capi_frames::settings_in(settings);
+    let record = calibration.into();
+    let inner = settings.into();
     let which = capi_record::subpage_of(subpage);
     let frame = frames640::raw_ir_to_temperatures(
         record,
@@ -93,7 +96,7 @@ pub extern "C" fn loamchalice_mlx90640_raw_ir_to_temperatures(
         mask,
         destination,
     );
-    capi_frames::frame_out(frame)
+    frame.into()
 }
 
 // Writes the bits of the pixels' infrared values into the destination. Refusals 2, 10, 7, 8; after one the destination is unchanged.
@@ -110,8 +113,8 @@ pub extern "C" fn loamchalice_mlx90640_raw_pixels_to_ir_data(
     ensures { Carried (Infrareds (ir_call (record_in calibration) (input_in input) (own_reading (input_in input).ram) offsets.now k_ta.now pixels.now mask.now)
         destination.old destination.new) result }
 {
-    let record = capi_record640::record_in(calibration);
-    let inner = input_in(input);
+    let record = calibration.into();
+    let inner = input.into();
     let frame = frames640::raw_pixels_to_ir_data(
         record,
         inner,
@@ -121,7 +124,7 @@ pub extern "C" fn loamchalice_mlx90640_raw_pixels_to_ir_data(
         mask,
         destination,
     );
-    capi_frames::frame_out(frame)
+    frame.into()
 }
 
 // Writes the bits of the pixels' temperatures into the destination, in one pass. Refusals 2, 10, 6, 7, 8; after one the destination is unchanged.
@@ -139,8 +142,8 @@ pub extern "C" fn loamchalice_mlx90640_raw_pixels_to_temperatures(
     ensures { Carried (Passes (pass_call (record_in calibration) (ir_call (record_in calibration) (input_in input) (own_reading (input_in input).ram) offsets.now k_ta.now pixels.now mask.now) alpha.now)
         destination.old destination.new) result }
 {
-    let record = capi_record640::record_in(calibration);
-    let inner = input_in(input);
+    let record = calibration.into();
+    let inner = input.into();
     let frame = frames640::raw_pixels_to_temperatures(
         record,
         inner,
@@ -151,7 +154,7 @@ pub extern "C" fn loamchalice_mlx90640_raw_pixels_to_temperatures(
         mask,
         destination,
     );
-    capi_frames::frame_out(frame)
+    frame.into()
 }
 
 // The second pass: writes the bits of the pixels' temperatures, each computed by the range that holds its basic temperature. Refusals 2, 10, 6, 7, 8, 12;
@@ -170,8 +173,8 @@ pub extern "C" fn loamchalice_mlx90640_raw_pixels_to_ranged_temperatures(
     ensures { Carried (RangedPasses (pass_call (record_in calibration) (ir_call (record_in calibration) (input_in input) (own_reading (input_in input).ram) offsets.now k_ta.now pixels.now mask.now) alpha.now)
         destination.old destination.new) result }
 {
-    let record = capi_record640::record_in(calibration);
-    let inner = input_in(input);
+    let record = calibration.into();
+    let inner = input.into();
     let frame = frames640::raw_pixels_to_ranged_temperatures(
         record,
         inner,
@@ -182,5 +185,5 @@ pub extern "C" fn loamchalice_mlx90640_raw_pixels_to_ranged_temperatures(
         mask,
         destination,
     );
-    capi_frames::frame_out(frame)
+    frame.into()
 }

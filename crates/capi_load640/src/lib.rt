@@ -32,7 +32,7 @@ impl From<Result<Calibration, Refusal>> for Load640 {
             number: told.number,
             place: told.place,
             value: told.value,
-            calibration: capi_record640::record_out(calibration),
+            calibration: calibration.into(),
         }
     }
 }

@@ -30,7 +30,8 @@ pub struct Taken {
     pub answer: Load,
 }
 
-// Returns a reader's answer as C has it: while more bytes are wanted, number 0, no mended word and a record of zeros.
+// Returns a reader's answer as C has it: while more bytes are wanted, number 0, no mended word and a record of zeros. A function, since a `From` between two
+// types of other crates is not this crate's to write.
 fn answer_out(answer: Answer) -> Load
     ensures { result ≡ answer_out answer }
 {
@@ -38,7 +39,7 @@ fn answer_out(answer: Answer) -> Load
         calibration: calibration::no_calibration(),
         mending: card::no_mending(),
     }));
-    capi_cards::load_out(loaded)
+    loaded.into()
 }
 
 // Returns the flag `ended`: 0 if more bytes are wanted.
@@ -48,19 +49,21 @@ fn flag(more: bool) -> u8
     if more { 0 } else { 1 }
 }
 
-// Returns a reading as C has it.
-fn reader_out(reading: Reading) -> Reader
-    ensures { result ≡ reader_out reading }
-{
-    let answer = reading.answer;
-    Reader {
-        count: reading.count,
-        ended: flag(answer.is_none()),
-        answer: answer_out(answer),
+// A reading as C has it.
+impl From<Reading> for Reader {
+    ghost from_gives = { λ reading result. result ≡ reader_out reading };
+
+    fn from(reading: Reading) -> Reader {
+        let answer = reading.answer;
+        Reader {
+            count: reading.count,
+            ended: flag(answer.is_none()),
+            answer: answer_out(answer),
+        }
     }
 }
 
-// Returns a reading that has not ended, with `count` bytes kept.
+// Returns a reading that has not ended, with `count` bytes kept. A function, for the same reason.
 fn reading_at(count: usize) -> Reading
     ensures { result ≡ reading_in count }
 {
@@ -75,7 +78,7 @@ fn reading_at(count: usize) -> Reading
 pub extern "C" fn loamchalice_reader_new() -> Reader
     ensures { result ≡ reader_out start }
 {
-    reader_out(reader::new())
+    reader::new().into()
 }
 
 // Takes a piece of any length; an empty one changes nothing. Refusals 2, 3, 4, 6 and 13; once the reading has ended, its result again. The tables change only
@@ -112,7 +115,7 @@ pub extern "C" fn loamchalice_reader_take(
         let next = taken.reading;
         let said = taken.answer;
         return Taken {
-            reader: reader_out(next),
+            reader: next.into(),
             answer: answer_out(said),
         };
     }
@@ -128,7 +131,7 @@ pub extern "C" fn loamchalice_reader_finished(reader: Reader) -> Reader
     let count = reader.count;
     if reader.ended == 0 {
         let reading = reading_at(count);
-        return reader_out(reader::finished(reading));
+        return reader::finished(reading).into();
     }
     reader
 }

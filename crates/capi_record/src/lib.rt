@@ -39,92 +39,100 @@ pub struct Flagged {
     pub coefficient: f32,
 }
 
-// Returns the gradient as C has it. No gradient is the flag 0 and the coefficient +0.
-pub fn gradient_out(gradient: Option<f32>) -> Flagged
-    ensures { result ≡ gradient_out gradient }
-{
-    match gradient {
-        Some(coefficient) => Flagged {
-            has: 1,
-            coefficient,
-        },
-        None => Flagged {
-            has: 0,
-            coefficient: 0.0,
-        },
+// The gradient as C has it. No gradient is the flag 0 and the coefficient +0.
+impl From<Option<f32>> for Flagged {
+    ghost from_gives = { λ gradient result. result ≡ gradient_out gradient };
+
+    fn from(gradient: Option<f32>) -> Flagged {
+        match gradient {
+            Some(coefficient) => Flagged {
+                has: 1,
+                coefficient,
+            },
+            None => Flagged {
+                has: 0,
+                coefficient: 0.0,
+            },
+        }
     }
 }
 
-// Returns the record as C has it.
-pub fn record_out(calibration: Calibration) -> Record
-    ensures { result ≡ record_out calibration }
-{
-    let gradient = calibration.temperature_gradient_coefficient;
-    let flag = gradient_out(gradient);
-    let k_s_to = calibration.k_s_to;
-    let corner_temperatures = calibration.corner_temperatures;
-    let range_coefficients = calibration.range_coefficients;
-    Record {
-        k_v_ptat: calibration.k_v_ptat,
-        k_t_ptat: calibration.k_t_ptat,
-        v_ptat_25: calibration.v_ptat_25,
-        alpha_ptat: calibration.alpha_ptat,
-        gain: calibration.gain,
-        k_s_ta: calibration.k_s_ta,
-        emissivity: calibration.emissivity,
-        alpha_cp: calibration.alpha_cp,
-        k_v_cp: calibration.k_v_cp,
-        k_ta_cp: calibration.k_ta_cp,
-        gradient: flag.coefficient,
-        k_s_to,
-        corner_temperatures,
-        k_v_dd: calibration.k_v_dd,
-        v_dd_25: calibration.v_dd_25,
-        offset_reference_cp: calibration.offset_reference_cp,
-        resolution: calibration.resolution,
-        has_gradient: flag.has,
-        range_coefficients,
+// The record as C has it.
+impl From<Calibration> for Record {
+    ghost from_gives = { λ calibration result. result ≡ record_out calibration };
+
+    fn from(calibration: Calibration) -> Record {
+        let gradient = calibration.temperature_gradient_coefficient;
+        let flag = Flagged::from(gradient);
+        let k_s_to = calibration.k_s_to;
+        let corner_temperatures = calibration.corner_temperatures;
+        let range_coefficients = calibration.range_coefficients;
+        Record {
+            k_v_ptat: calibration.k_v_ptat,
+            k_t_ptat: calibration.k_t_ptat,
+            v_ptat_25: calibration.v_ptat_25,
+            alpha_ptat: calibration.alpha_ptat,
+            gain: calibration.gain,
+            k_s_ta: calibration.k_s_ta,
+            emissivity: calibration.emissivity,
+            alpha_cp: calibration.alpha_cp,
+            k_v_cp: calibration.k_v_cp,
+            k_ta_cp: calibration.k_ta_cp,
+            gradient: flag.coefficient,
+            k_s_to,
+            corner_temperatures,
+            k_v_dd: calibration.k_v_dd,
+            v_dd_25: calibration.v_dd_25,
+            offset_reference_cp: calibration.offset_reference_cp,
+            resolution: calibration.resolution,
+            has_gradient: flag.has,
+            range_coefficients,
+        }
     }
 }
 
-// Returns the gradient from C's flag and coefficient. The flag 0 is no gradient, whatever the coefficient.
+// Returns the gradient from C's flag and coefficient. The flag 0 is no gradient, whatever the coefficient. A function, since a `From` has one
+// argument.
 pub fn gradient_in(has: u8, coefficient: f32) -> Option<f32>
     ensures { result ≡ gradient_in has coefficient }
 {
     if has == 0 { None } else { Some(coefficient) }
 }
 
-// Returns the record that the inner calls take, from C's.
-pub fn record_in(calibration: Record) -> Calibration
-    ensures { result ≡ record_in calibration }
-{
-    let gradient = gradient_in(calibration.has_gradient, calibration.gradient);
-    let k_s_to = calibration.k_s_to;
-    let corner_temperatures = calibration.corner_temperatures;
-    let range_coefficients = calibration.range_coefficients;
-    Calibration {
-        k_v_dd: calibration.k_v_dd,
-        v_dd_25: calibration.v_dd_25,
-        resolution: calibration.resolution,
-        k_v_ptat: calibration.k_v_ptat,
-        k_t_ptat: calibration.k_t_ptat,
-        v_ptat_25: calibration.v_ptat_25,
-        alpha_ptat: calibration.alpha_ptat,
-        gain: calibration.gain,
-        k_s_ta: calibration.k_s_ta,
-        corner_temperatures,
-        k_s_to,
-        emissivity: calibration.emissivity,
-        alpha_cp: calibration.alpha_cp,
-        offset_reference_cp: calibration.offset_reference_cp,
-        k_v_cp: calibration.k_v_cp,
-        k_ta_cp: calibration.k_ta_cp,
-        temperature_gradient_coefficient: gradient,
-        range_coefficients,
+// The record that the inner calls take, from C's.
+impl From<Record> for Calibration {
+    ghost from_gives = { λ calibration result. result ≡ record_in calibration };
+
+    fn from(calibration: Record) -> Calibration {
+        let gradient = gradient_in(calibration.has_gradient, calibration.gradient);
+        let k_s_to = calibration.k_s_to;
+        let corner_temperatures = calibration.corner_temperatures;
+        let range_coefficients = calibration.range_coefficients;
+        Calibration {
+            k_v_dd: calibration.k_v_dd,
+            v_dd_25: calibration.v_dd_25,
+            resolution: calibration.resolution,
+            k_v_ptat: calibration.k_v_ptat,
+            k_t_ptat: calibration.k_t_ptat,
+            v_ptat_25: calibration.v_ptat_25,
+            alpha_ptat: calibration.alpha_ptat,
+            gain: calibration.gain,
+            k_s_ta: calibration.k_s_ta,
+            corner_temperatures,
+            k_s_to,
+            emissivity: calibration.emissivity,
+            alpha_cp: calibration.alpha_cp,
+            offset_reference_cp: calibration.offset_reference_cp,
+            k_v_cp: calibration.k_v_cp,
+            k_ta_cp: calibration.k_ta_cp,
+            temperature_gradient_coefficient: gradient,
+            range_coefficients,
+        }
     }
 }
 
-// Returns the subpage of a number: 0 is the first, any other number the second.
+// Returns the subpage of a number: 0 is the first, any other number the second. A function, since a `From` between two types of other crates is not this
+// crate's to write.
 pub fn subpage_of(subpage: u8) -> Subpage
     ensures { result ≡ subpage_of subpage }
 {

@@ -12,7 +12,7 @@ unfolding finishes_out
 ends reader q given told e f g h = rw (eq-eqb _ 0 e, ← f, ← g) h
 
 pub returns-then-reader-eq0 : goal.returns-then-reader-eq0
-returns-then-reader-eq0 c = ends _ _ _ _ c.if-reader-eq0.true c.reading_at-reading.ensures c.finished.ensures c.reader_out.ensures
+returns-then-reader-eq0 c = ends _ _ _ _ c.if-reader-eq0.true c.reading_at-reading.ensures c.finished.ensures c.into.ensures
 
 pub returns : goal.returns
 unfolding finishes_out

@@ -24,7 +24,7 @@ pub returns-then-reader-eq0 : goal.returns-then-reader-eq0
 returns-then-reader-eq0 c =
     let a = c.args in
     goes_on a.image.now a.reader a.piece.now a.basic_range (tables a.offsets0.now a.offsets1.now a.alpha.now a.k_v.now a.k_ta.now)
-    c.if-reader-eq0.true c.reading_at-reading.ensures c.take-taken.ensures c.reader_out.ensures c.answer_out.ensures
+    c.if-reader-eq0.true c.reading_at-reading.ensures c.take-taken.ensures c.into.ensures c.answer_out.ensures
 
 pub returns : goal.returns
 unfolding takes_out
