@@ -21,10 +21,9 @@ fn corners(camera: &[u8]) -> [i16; 8] {
 pub fn record(camera: &[u8]) -> Calibration {
     let mut k_s_to = [0.0f32; 8];
     let mut range_coefficients = [0.0f32; 8];
-    stream::fill_reals(camera, 68, &mut k_s_to);
-    stream::fill_reals(camera, 128, &mut range_coefficients);
+    stream::fill(camera, 68, &mut k_s_to);
+    stream::fill(camera, 128, &mut range_coefficients);
     let corner_temperatures = corners(camera);
-    let gradient = frame_parts::gradient_at(camera, 120);
     Calibration {
         k_v_dd: stream::short_at(camera, 2),
         v_dd_25: stream::short_at(camera, 6),
@@ -42,7 +41,7 @@ pub fn record(camera: &[u8]) -> Calibration {
         offset_reference_cp: stream::short_at(camera, 110),
         k_v_cp: stream::real_at(camera, 112),
         k_ta_cp: stream::real_at(camera, 116),
-        temperature_gradient_coefficient: gradient,
+        temperature_gradient_coefficient: frame_parts::gradient_at(camera, 120),
         range_coefficients,
     }
 }
@@ -50,13 +49,12 @@ pub fn record(camera: &[u8]) -> Calibration {
 // ---- A frame
 
 pub fn filtered(frame: &[u8], input: &[u8]) -> FilteredInput {
-    let plain = Input {
-        settings: frame_parts::settings(frame),
-        ram: frame_parts::ram(frame),
-        subpage: frame_parts::subpage(frame),
-    };
     FilteredInput {
-        input: plain,
+        input: Input {
+            settings: frame_parts::settings(frame),
+            ram: frame_parts::ram(frame),
+            subpage: frame_parts::subpage(frame),
+        },
         compensation: frame_parts::steadied(input),
     }
 }

@@ -2,21 +2,20 @@
 // frame's result with the expected answer. docs/CASES.md describes the inputs and answers.
 #![tactic(auto)]
 
-use camera::{Gradient, Subpage};
-use filter::Steadied;
+use camera::Subpage;
 use formulas::{RamData, Reflected, Settings};
 use frames::Frame;
-use refusal::Verdict;
+use refusal::Refusal;
+use stream::{Differs, Expected};
 
 // ---- A frame's first 36 bytes
 
 fn reflected(frame: &[u8]) -> Reflected {
-    if stream::byte_at(frame, 35) == 0 {
-        Reflected::Ambient {
+    match stream::byte_at(frame, 35) {
+        0 => Reflected::Ambient {
             self_heating: stream::real_at(frame, 12),
-        }
-    } else {
-        Reflected::Given(stream::real_at(frame, 12))
+        },
+        _ => Reflected::Given(stream::real_at(frame, 12)),
     }
 }
 
@@ -41,10 +40,9 @@ pub fn ram(frame: &[u8]) -> RamData {
 }
 
 pub fn subpage_at(block: &[u8], at: usize) -> Subpage {
-    if stream::byte_at(block, at) == 0 {
-        Subpage::Zero
-    } else {
-        Subpage::One
+    match stream::byte_at(block, at) {
+        0 => Subpage::Zero,
+        _ => Subpage::One,
     }
 }
 
@@ -54,45 +52,41 @@ pub fn subpage(frame: &[u8]) -> Subpage {
 
 // ---- A filter's result, if the input has one
 
-pub fn steadied(input: &[u8]) -> Steadied {
-    if stream::byte_at(input, 0) == 0 {
-        Steadied::NotYet
-    } else {
-        Steadied::Average(stream::real_at(input, 1))
+pub fn steadied(input: &[u8]) -> Option<f32> {
+    match stream::byte_at(input, 0) {
+        0 => None,
+        _ => Some(stream::real_at(input, 1)),
     }
 }
 
 // ---- A record's gradient, if it has one
 
-pub fn gradient_at(camera: &[u8], at: usize) -> Gradient {
-    if stream::word_at(camera, at) == 0 {
-        Gradient::Missing
-    } else {
-        Gradient::Coefficient(stream::real_at(camera, stream::after(at, 4)))
+pub fn gradient_at(camera: &[u8], at: usize) -> Option<f32> {
+    match stream::word_at(camera, at) {
+        0 => None,
+        _ => Some(stream::real_at(camera, stream::after(at, 4))),
     }
 }
 
-// ---- A frame's answer: the refusal, t_a, lost pixels and the whole destination
+// ---- A frame's answer: the refusal, t_a, lost pixels and the whole destination. After a refusal t_a and lost pixels are 0.
 
-fn same_done(answer: &[u8], verdict: Verdict, t_a: u32, lost: usize) -> usize {
-    let mut at = stream::same_verdict(answer, 0, verdict);
-    at = stream::same_word(answer, at, t_a);
-    stream::same_size(answer, at, lost)
-}
-
-pub fn same_frame(answer: &[u8], frame: Frame, destination: &[u32]) -> usize {
-    let at = match frame {
-        Frame::Done { t_a, lost } => same_done(answer, Verdict::Pass, t_a, lost),
-        Frame::Refused(refusal) => same_done(answer, Verdict::Refused(refusal), 0, 0),
-    };
-    stream::same_words(answer, at, destination)
+pub fn same_frame(
+    expected: &mut Expected,
+    frame: Result<Frame, Refusal>,
+    destination: &[u32],
+) -> Result<(), Differs> {
+    let Frame { t_a, lost } = frame.unwrap_or(Frame { t_a: 0, lost: 0 });
+    expected.same_verdict(frame.map(|_| ()))?;
+    expected.same(t_a)?;
+    expected.same_size(lost)?;
+    expected.all_same(destination)
 }
 
 // Fills the destination before a call from infrared: with the input's own values if it has any after t_a, else with the frame's, which begin at `at`.
 pub fn fill_before(frame: &[u8], at: usize, input: &[u8], destination: &mut [u32]) {
     if input.len() < 5 {
-        stream::fill_words(frame, at, destination);
-        return;
+        stream::fill(frame, at, destination);
+    } else {
+        stream::fill(input, 4, destination);
     }
-    stream::fill_words(input, 4, destination);
 }
