@@ -16,7 +16,7 @@ use offsets::Offset;
 use refusal::{Refusal, Told, Verdict};
 
 // The result of a load: number, place and value of the refusal, all 0 for none; the number of checked words that were mended, and the last of them (832 if
-// there is none, and after a refusal); and the calibration record, all zero after a refusal.
+// there is none, and after a refusal); and the calibration record, all zero after a refusal. C has no `Result`, and no `Option`.
 #[repr(C)]
 #[derive(Clone, Copy)]
 pub struct Load {

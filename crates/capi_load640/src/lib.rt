@@ -9,7 +9,7 @@ use capi_record640::Record640;
 use record640::Calibration;
 use refusal::Refusal;
 
-// The result of a load: number, place and value of the refusal, all 0 for none; and the record, all zero after a refusal.
+// The result of a load: number, place and value of the refusal, all 0 for none; and the record, all zero after a refusal. C has no `Result`.
 #[repr(C)]
 #[derive(Clone, Copy)]
 pub struct Load640 {

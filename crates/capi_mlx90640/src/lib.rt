@@ -33,7 +33,7 @@ pub struct AccessPattern {
     pub pattern: [f32; 6],
 }
 
-// A pixel's entry, 0 after a refusal; and number, place and value of the refusal, all 0 for none.
+// A pixel's entry, 0 after a refusal; and number, place and value of the refusal, all 0 for none. C has no `Result`.
 #[repr(C)]
 #[derive(Clone, Copy)]
 pub struct PixelEntry {

@@ -7,7 +7,7 @@ ghost use Rattle.capi_record.specs.Record.{gradient_out, record_out, gradient_in
 use calibration::Calibration;
 use camera::Subpage;
 
-// The calibration record. If `has_gradient` is 0 there is no gradient, and `gradient` is not read.
+// The calibration record. If `has_gradient` is 0 there is no gradient, and `gradient` is not read: C has no `Option`.
 #[repr(C)]
 #[derive(Clone, Copy)]
 pub struct Record {

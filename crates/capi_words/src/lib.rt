@@ -12,7 +12,7 @@ use hamming::Checked;
 use refusal::Refusal;
 
 // The result of a call on a chip word: number, place and value of the refusal, all 0 for none; and the word or its data, 0 after a refusal. If a checked word
-// was mended, `mended` is 1 and `bit` is the flipped bit, 0 to 15; or else both are 0.
+// was mended, `mended` is 1 and `bit` is the flipped bit, 0 to 15; or else both are 0. C has no `Result`.
 #[repr(C)]
 #[derive(Clone, Copy)]
 pub struct Word {

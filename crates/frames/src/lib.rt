@@ -25,7 +25,8 @@ pub struct Frame {
     pub lost: usize,
 }
 
-// What a call from pixels writes: infrared values, temperatures in one pass, or temperatures by the second pass.
+// What a call from pixels writes: infrared values, temperatures in one pass, or temperatures by the second pass. A match on it is plainer than a closure for
+// each: one place has the tests of all three, and one what is computed.
 #[derive(Clone, Copy)]
 pub enum Wanted {
     Infrared,

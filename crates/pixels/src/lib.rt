@@ -25,7 +25,8 @@ use roots::SIDE;
 // The bits of every not-a-number that is written.
 const PATTERN: u32 = 0x7FC0_0000;
 
-// Where the infrared numbers come from: the pixel bytes, or the bits that the destination holds.
+// Where the infrared numbers come from: the pixel bytes, or the bits that the destination holds. An enum and no closure: a case holds what it needs, and the
+// laws speak of the cases.
 #[derive(Clone, Copy)]
 pub enum Source {
     Pixels {
@@ -35,7 +36,7 @@ pub enum Source {
     Destination,
 }
 
-// What is written: infrared numbers, temperatures, or those of the second pass, over so many ranges.
+// What is written: infrared numbers, temperatures, or those of the second pass, over so many ranges; an enum for the same reason.
 #[derive(Clone, Copy)]
 pub enum Goal {
     Infrared,
