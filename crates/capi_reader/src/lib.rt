@@ -11,8 +11,8 @@ use eeprom::Loaded;
 use offsets::Offset;
 use reader::{Answer, Image, Reading};
 
-// A reading, for C, which has no `Option`: the number of bytes kept, whether it has ended (0 if not), and the result that it ended with. Until then `answer` has number 0, no mended word
-// and a record of zeros.
+// A reading, for C, which has no `Option`: the number of bytes kept, whether it has ended (0 if not), and the result that it ended with. Until then `answer`
+// has number 0, no mended word and a record of zeros.
 #[repr(C)]
 #[derive(Clone, Copy)]
 pub struct Reader {

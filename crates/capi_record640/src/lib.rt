@@ -7,8 +7,8 @@ ghost use Rattle.capi_record640.specs.Record.{record_out, record_in};
 use capi_record::Flagged;
 use record640::Calibration;
 
-// The calibration record. If `has_gradient` is 0 there is no gradient, and `gradient` is not read: C has no `Option`. Lists of two have an entry for each subpage. `unused`
-// fills the struct so that the compiler adds no padding: it is 0 in a record that is returned, and not read in one that is passed in.
+// The calibration record. If `has_gradient` is 0 there is no gradient, and `gradient` is not read: C has no `Option`. Lists of two have an entry for each
+// subpage. `unused` fills the struct so that the compiler adds no padding: it is 0 in a record that is returned, and not read in one that is passed in.
 #[repr(C)]
 #[derive(Clone, Copy)]
 pub struct Record640 {
