@@ -1,21 +1,34 @@
-// The MLX90640's frame calls, by the kind of a case.
+// The MLX90640's calls on raw pixels, by the kind of a case.
 use frames::Frame;
 use frames640::{FilteredInput, Input};
 use record640::Calibration;
+use refusal::Refusal;
+use stream::{Pass, RawCall};
+
+// The camera's tables, as many entries of each as the frame says.
+#[derive(Clone, Copy)]
+pub struct Tables<'a> {
+    pub offsets: &'a [i32],
+    pub alpha: &'a [f32],
+    pub k_ta: &'a [f32],
+}
 
 fn plain(
-    kind: u16,
+    pass: Pass,
     record: Calibration,
     input: Input,
-    offsets: &[i32],
-    alpha: &[f32],
-    k_ta: &[f32],
+    tables: Tables,
     pixels: &[u8],
     mask: &[u8],
     destination: &mut [u32],
-) -> Frame {
-    match kind {
-        stream::INFRARED_640 => frames640::raw_pixels_to_ir_data(
+) -> Result<Frame, Refusal> {
+    let Tables {
+        offsets,
+        alpha,
+        k_ta,
+    } = tables;
+    match pass {
+        Pass::Infrared => frames640::raw_pixels_to_ir_data(
             record,
             input,
             offsets,
@@ -24,7 +37,7 @@ fn plain(
             mask,
             destination,
         ),
-        stream::ONE_PASS_640 => frames640::raw_pixels_to_temperatures(
+        Pass::One => frames640::raw_pixels_to_temperatures(
             record,
             input,
             offsets,
@@ -34,7 +47,7 @@ fn plain(
             mask,
             destination,
         ),
-        _ => frames640::raw_pixels_to_ranged_temperatures(
+        Pass::Second => frames640::raw_pixels_to_ranged_temperatures(
             record,
             input,
             offsets,
@@ -48,18 +61,21 @@ fn plain(
 }
 
 fn filtered(
-    kind: u16,
+    pass: Pass,
     record: Calibration,
     input: FilteredInput,
-    offsets: &[i32],
-    alpha: &[f32],
-    k_ta: &[f32],
+    tables: Tables,
     pixels: &[u8],
     mask: &[u8],
     destination: &mut [u32],
-) -> Frame {
-    match kind {
-        stream::FILTERED_INFRARED_640 => frames640::filtered_pixels_to_ir_data(
+) -> Result<Frame, Refusal> {
+    let Tables {
+        offsets,
+        alpha,
+        k_ta,
+    } = tables;
+    match pass {
+        Pass::Infrared => frames640::filtered_pixels_to_ir_data(
             record,
             input,
             offsets,
@@ -68,7 +84,7 @@ fn filtered(
             mask,
             destination,
         ),
-        stream::FILTERED_ONE_PASS_640 => frames640::filtered_pixels_to_temperatures(
+        Pass::One => frames640::filtered_pixels_to_temperatures(
             record,
             input,
             offsets,
@@ -78,7 +94,7 @@ fn filtered(
             mask,
             destination,
         ),
-        _ => frames640::filtered_pixels_to_ranged_temperatures(
+        Pass::Second => frames640::filtered_pixels_to_ranged_temperatures(
             record,
             input,
             offsets,
@@ -92,38 +108,20 @@ fn filtered(
 }
 
 pub fn call(
-    kind: u16,
+    call: RawCall,
     record: Calibration,
     input: FilteredInput,
-    offsets: &[i32],
-    alpha: &[f32],
-    k_ta: &[f32],
+    tables: Tables,
     pixels: &[u8],
     mask: &[u8],
     destination: &mut [u32],
-) -> Frame {
-    if kind < stream::FILTERED_INFRARED_640 {
-        return plain(
-            kind,
-            record,
-            input.input,
-            offsets,
-            alpha,
-            k_ta,
-            pixels,
-            mask,
-            destination,
-        );
+) -> Result<Frame, Refusal> {
+    match call {
+        RawCall::Plain(pass) => {
+            plain(pass, record, input.input, tables, pixels, mask, destination)
+        }
+        RawCall::Filtered(pass) => {
+            filtered(pass, record, input, tables, pixels, mask, destination)
+        }
     }
-    filtered(
-        kind,
-        record,
-        input,
-        offsets,
-        alpha,
-        k_ta,
-        pixels,
-        mask,
-        destination,
-    )
 }

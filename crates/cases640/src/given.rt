@@ -25,14 +25,13 @@ pub fn record(camera: &[u8]) -> Calibration {
     let mut alpha_cp = [0.0f32; 2];
     let mut k_v = [0.0f32; 4];
     let mut access_pattern = [0.0f32; 6];
-    stream::fill_reals(camera, 52, &mut k_s_to);
-    stream::fill_reals(camera, 68, &mut range_coefficients);
-    stream::fill_reals(camera, 84, &mut alpha_cp);
-    stream::fill_reals(camera, 116, &mut k_v);
-    stream::fill_reals(camera, 132, &mut access_pattern);
+    stream::fill(camera, 52, &mut k_s_to);
+    stream::fill(camera, 68, &mut range_coefficients);
+    stream::fill(camera, 84, &mut alpha_cp);
+    stream::fill(camera, 116, &mut k_v);
+    stream::fill(camera, 132, &mut access_pattern);
     let corner_temperatures = corners(camera);
     let offset_reference_cp = offsets_cp(camera);
-    let gradient = frame_parts::gradient_at(camera, 108);
     Calibration {
         k_v_dd: stream::short_at(camera, 2),
         v_dd_25: stream::short_at(camera, 6),
@@ -50,7 +49,7 @@ pub fn record(camera: &[u8]) -> Calibration {
         offset_reference_cp,
         k_v_cp: stream::real_at(camera, 100),
         k_ta_cp: stream::real_at(camera, 104),
-        temperature_gradient_coefficient: gradient,
+        temperature_gradient_coefficient: frame_parts::gradient_at(camera, 108),
         k_v,
         access_pattern,
         access_cp: stream::real_at(camera, 156),
@@ -60,22 +59,20 @@ pub fn record(camera: &[u8]) -> Calibration {
 // ---- A frame
 
 pub fn pattern_at(block: &[u8], at: usize) -> Pattern {
-    if stream::byte_at(block, at) == 0 {
-        Pattern::Interleave
-    } else {
-        Pattern::Chess
+    match stream::byte_at(block, at) {
+        0 => Pattern::Interleave,
+        _ => Pattern::Chess,
     }
 }
 
 pub fn filtered(frame: &[u8], input: &[u8]) -> FilteredInput {
-    let plain = Input {
-        settings: frame_parts::settings(frame),
-        ram: frame_parts::ram(frame),
-        subpage: frame_parts::subpage(frame),
-        pattern: pattern_at(frame, 36),
-    };
     FilteredInput {
-        input: plain,
+        input: Input {
+            settings: frame_parts::settings(frame),
+            ram: frame_parts::ram(frame),
+            subpage: frame_parts::subpage(frame),
+            pattern: pattern_at(frame, 36),
+        },
         compensation: frame_parts::steadied(input),
     }
 }

@@ -1,4 +1,4 @@
-// Test cases of the MLX90640's card and frames: each makes the call of its kind, and returns how much of the answer agrees. docs/CASES.md describes the
+// Test cases of the MLX90640's card and frames: each makes the call of its kind, and compares the result with the expected answer. docs/CASES.md describes the
 // inputs and answers.
 #![tactic(auto)]
 
@@ -7,28 +7,35 @@ mod frame;
 mod given;
 mod loads;
 
+use stream::{Case640, Differs, Expected};
+
 // ---- The shelf: a camera, followed by a frame
 
 const CAMERA_BYTES: usize = 9472;
 
-pub fn camera_mut<'a>(shelf: &'a mut [u8]) -> &'a mut [u8] {
-    stream::bytes_mut(shelf, CAMERA_BYTES)
+pub fn camera_mut(shelf: &mut [u8]) -> &mut [u8] {
+    stream::first_mut(shelf, CAMERA_BYTES)
 }
 
-pub fn frame_mut<'a>(shelf: &'a mut [u8]) -> &'a mut [u8] {
+pub fn frame_mut(shelf: &mut [u8]) -> &mut [u8] {
     stream::rest_mut(shelf, CAMERA_BYTES)
 }
 
-pub fn agreed(kind: u16, shelf: &[u8], input: &[u8], answer: &[u8]) -> usize {
-    match kind {
-        stream::LOAD_640 => loads::load(input, answer),
-        stream::MASK_640 => frame::mask(input, answer),
-        _ => frame::agreed(
-            kind,
+pub fn compare(
+    case: Case640,
+    shelf: &[u8],
+    input: &[u8],
+    expected: &mut Expected,
+) -> Result<(), Differs> {
+    match case {
+        Case640::Load => loads::load(input, expected),
+        Case640::Mask => frame::mask(input, expected),
+        Case640::Call(call) => frame::compare(
+            call,
             shelf,
             stream::rest(shelf, CAMERA_BYTES),
             input,
-            answer,
+            expected,
         ),
     }
 }

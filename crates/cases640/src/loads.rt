@@ -1,78 +1,70 @@
 // Test cases of the MLX90640's load, and the comparison with the expected answer.
-use load640::Loaded;
 use record640::Calibration;
+use refusal::Refusal;
+use stream::{Differs, Expected};
 
-fn same_sensor(answer: &[u8], from: usize, record: Calibration) -> usize {
-    let mut at = stream::same_small(answer, from, record.k_v_dd);
-    at = stream::same_small(answer, at, record.v_dd_25);
-    at = stream::same_word(answer, at, record.resolution as u32);
-    at = stream::same_real(answer, at, record.k_v_ptat);
-    at = stream::same_real(answer, at, record.k_t_ptat);
-    at = stream::same_real(answer, at, record.v_ptat_25);
-    at = stream::same_real(answer, at, record.alpha_ptat);
-    at = stream::same_real(answer, at, record.gain);
-    stream::same_real(answer, at, record.k_s_ta)
+fn same_sensor(expected: &mut Expected, record: Calibration) -> Result<(), Differs> {
+    expected.same(i32::from(record.k_v_dd))?;
+    expected.same(i32::from(record.v_dd_25))?;
+    expected.same(u32::from(record.resolution))?;
+    expected.same(record.k_v_ptat)?;
+    expected.same(record.k_t_ptat)?;
+    expected.same(record.v_ptat_25)?;
+    expected.same(record.alpha_ptat)?;
+    expected.same(record.gain)?;
+    expected.same(record.k_s_ta)
 }
 
-fn same_corners(answer: &[u8], from: usize, corners: [i16; 4]) -> usize {
-    let mut at = stream::same_small(answer, from, corners[0]);
-    at = stream::same_small(answer, at, corners[1]);
-    at = stream::same_small(answer, at, corners[2]);
-    stream::same_small(answer, at, corners[3])
+fn same_ranges(expected: &mut Expected, record: Calibration) -> Result<(), Differs> {
+    for corner in record.corner_temperatures {
+        expected.same(i32::from(corner))?;
+    }
+    expected.all_same(&record.k_s_to)?;
+    expected.all_same(&record.range_coefficients)
 }
 
-fn same_ranges(answer: &[u8], from: usize, record: Calibration) -> usize {
-    let corners = record.corner_temperatures;
-    let k_s_to = record.k_s_to;
-    let coefficients = record.range_coefficients;
-    let mut at = same_corners(answer, from, corners);
-    at = stream::same_reals(answer, at, &k_s_to);
-    stream::same_reals(answer, at, &coefficients)
+fn same_compensation(expected: &mut Expected, record: Calibration) -> Result<(), Differs> {
+    expected.all_same(&record.alpha_cp)?;
+    for offset in record.offset_reference_cp {
+        expected.same(i32::from(offset))?;
+    }
+    expected.same(record.k_v_cp)?;
+    expected.same(record.k_ta_cp)?;
+    expected.same_gradient(record.temperature_gradient_coefficient)
 }
 
-fn same_compensation(answer: &[u8], from: usize, record: Calibration) -> usize {
-    let alpha = record.alpha_cp;
-    let offsets = record.offset_reference_cp;
-    let gradient = record.temperature_gradient_coefficient;
-    let mut at = stream::same_reals(answer, from, &alpha);
-    at = stream::same_small(answer, at, offsets[0]);
-    at = stream::same_small(answer, at, offsets[1]);
-    at = stream::same_real(answer, at, record.k_v_cp);
-    at = stream::same_real(answer, at, record.k_ta_cp);
-    stream::same_gradient(answer, at, gradient)
+fn same_pixels(expected: &mut Expected, record: Calibration) -> Result<(), Differs> {
+    expected.all_same(&record.k_v)?;
+    expected.all_same(&record.access_pattern)?;
+    expected.same(record.access_cp)
 }
 
-fn same_pixels(answer: &[u8], from: usize, record: Calibration) -> usize {
-    let k_v = record.k_v;
-    let pattern = record.access_pattern;
-    let mut at = stream::same_reals(answer, from, &k_v);
-    at = stream::same_reals(answer, at, &pattern);
-    stream::same_real(answer, at, record.access_cp)
+// Compares verdict and record. After a refusal the expected answer has a record of zeros.
+fn same_loaded(
+    expected: &mut Expected,
+    loaded: Result<Calibration, Refusal>,
+) -> Result<(), Differs> {
+    let record = loaded.unwrap_or(record640::no_calibration());
+    expected.same_verdict(loaded.map(|_| ()))?;
+    same_sensor(expected, record)?;
+    same_ranges(expected, record)?;
+    same_compensation(expected, record)?;
+    same_pixels(expected, record)
 }
 
-fn same_loaded(answer: &[u8], loaded: Loaded) -> usize {
-    let verdict = loaded.verdict;
-    let record = loaded.calibration;
-    let mut at = stream::same_verdict(answer, 0, verdict);
-    at = same_sensor(answer, at, record);
-    at = same_ranges(answer, at, record);
-    at = same_compensation(answer, at, record);
-    same_pixels(answer, at, record)
-}
-
-pub fn load(input: &[u8], answer: &[u8]) -> usize {
+pub fn load(input: &[u8], expected: &mut Expected) -> Result<(), Differs> {
     let mut offsets = [77i32; 776];
     let mut alpha = [77.0f32; 776];
     let mut k_ta = [77.0f32; 776];
     let loaded = load640::load(
         stream::rest(input, 14),
         stream::long_at(input, 0) as usize,
-        stream::wholes_mut(&mut offsets, stream::size_at(input, 8)),
-        stream::reals_mut(&mut alpha, stream::size_at(input, 10)),
-        stream::reals_mut(&mut k_ta, stream::size_at(input, 12)),
+        stream::first_mut(&mut offsets, stream::size_at(input, 8)),
+        stream::first_mut(&mut alpha, stream::size_at(input, 10)),
+        stream::first_mut(&mut k_ta, stream::size_at(input, 12)),
     );
-    let mut at = same_loaded(answer, loaded);
-    at = stream::same_wholes(answer, at, &offsets);
-    at = stream::same_reals(answer, at, &alpha);
-    stream::same_reals(answer, at, &k_ta)
+    same_loaded(expected, loaded)?;
+    expected.all_same(&offsets)?;
+    expected.all_same(&alpha)?;
+    expected.all_same(&k_ta)
 }
