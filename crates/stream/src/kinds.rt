@@ -1,4 +1,6 @@
 // The kinds of cases. A kind's number begins its cases; its name stands in the runner's lines.
+ghost use Rattle.std.specs.Prelude.{IsOk, ◌↔◌, ◌≤◌};
+
 use std::fmt;
 
 // What a frame call makes of raw pixels: infrared, or temperatures by the coefficients of one range or of each pixel's own range.
@@ -73,6 +75,8 @@ pub struct UnknownKind(pub u16);
 
 impl TryFrom<u16> for Kind {
     type Error = UnknownKind;
+
+    ghost try_from_gives = { λ number kind. IsOk kind ↔ ((1 ≤ number) × (number ≤ 34)) };
 
     fn try_from(number: u16) -> Result<Self, UnknownKind> {
         match number {

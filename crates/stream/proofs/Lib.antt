@@ -1,0 +1,2 @@
+-- Laws of the comparison.
+mod Passing
