@@ -7,6 +7,9 @@ mod lines;
 use lines::{First, Tally};
 use stream::{CardCase, Case640, Differs, Expected, Kind, Shelved, UnknownKind};
 
+// A stream also ends at a case with this number in place of a kind.
+const END: u16 = 0xFFFF;
+
 // An upper bound on the number of cases in a stream.
 const MOST: u64 = 1000000;
 
@@ -51,6 +54,9 @@ fn read_case(case: &mut [u8]) -> Result<Option<Head>, Cut> {
         return Err(Cut);
     }
     let number = stream::half_at(&block, 0);
+    if number == END {
+        return Ok(None);
+    }
     let head = Head {
         number,
         kind: Kind::try_from(number)?,
