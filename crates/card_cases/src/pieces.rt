@@ -4,6 +4,9 @@ use crate::loads::Tables;
 use reader::{Answer, Image, Reading};
 use stream::{Differs, Expected};
 
+// An upper bound on the number of events of a case.
+const MOST_EVENTS: usize = 65536;
+
 // Where the next event stands, the reading, and what its calls are given.
 #[derive(Clone, Copy)]
 struct Turn {
@@ -122,11 +125,40 @@ fn event(
     }
 }
 
+// The number of bytes that an event takes, or none if there is no such event.
+fn event_size(input: &[u8], at: usize) -> Option<usize> {
+    match stream::byte_at(input, at) {
+        0 => Some(stream::after(stream::size_at(input, stream::after(at, 1)), 3)),
+        1..=3 => Some(1),
+        4 => Some(19),
+        _ => None,
+    }
+}
+
+// Whether there is an event for each byte that begins one.
+fn are_events(input: &[u8]) -> bool {
+    let mut at = 0;
+    for _ in 0..MOST_EVENTS {
+        if input.len() <= at {
+            break;
+        }
+        let Some(size) = event_size(input, at) else {
+            return false;
+        };
+        at = stream::after(at, size);
+    }
+    true
+}
+
+// Nothing agrees if an event is unknown.
 pub fn pieces(input: &[u8], expected: &mut Expected) -> Result<(), Differs> {
+    if !are_events(input) {
+        return Err(Differs);
+    }
     let mut image = [77u8; 1664];
     let mut tables = loads::tables_before();
     let mut turn = first_turn();
-    for _ in 0..65536usize {
+    for _ in 0..MOST_EVENTS {
         if input.len() <= turn.at {
             break;
         }
