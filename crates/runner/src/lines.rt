@@ -51,6 +51,14 @@ fn kind_lines(tallies: &[Tally; 64]) -> fmt::Result {
     Ok(())
 }
 
+// Writes the name of a kind that has answers to compare; cameras and frames have none.
+fn kind_name(kind: Kind) -> fmt::Result {
+    match kind {
+        Kind::Shelved(_) => Output.write_str("unknown kind"),
+        _ => write!(Output, "{kind}"),
+    }
+}
+
 fn first_line(first: Option<First>, name: &[u8]) -> fmt::Result {
     Output.write_str("first disagreement\t")?;
     match first {
@@ -64,7 +72,9 @@ fn first_line(first: Option<First>, name: &[u8]) -> fmt::Result {
                 agreed,
             },
         ) => {
-            write!(Output, "{number}\t{kind}\t")?;
+            write!(Output, "{number}\t")?;
+            kind_name(kind)?;
+            Output.write_str("\t")?;
             console::put(stream::bytes(name, 0, length))?;
             writeln!(Output, "\tbyte {agreed}")
         }

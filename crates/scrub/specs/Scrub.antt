@@ -58,7 +58,7 @@ left_of before =
 unfoldable pub counts_of : List ℕ → Counts
 counts_of image = record { changed = how_many (mended_at image); damaged = how_many (damaged_at image) }
 
--- the counts of a refused scrub
+-- the counts that C is given after a refusal
 abbrev pub no_counts : Counts
 no_counts = record { changed = 0; damaged = 0 }
 
