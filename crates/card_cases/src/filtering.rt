@@ -2,6 +2,19 @@
 use filter::Filter;
 use stream::{Differs, Expected};
 
+#[derive(Clone, Copy, Debug, PartialEq, Eq)]
+enum Event {
+    Push,
+    Reset,
+}
+
+fn event_at(input: &[u8], at: usize) -> Event {
+    match stream::byte_at(input, at) {
+        0 => Event::Push,
+        _ => Event::Reset,
+    }
+}
+
 // The position of the next event, and the filter.
 #[derive(Clone, Copy)]
 struct Turn {
@@ -18,18 +31,19 @@ fn same_average(expected: &mut Expected, average: Option<f32>) -> Result<(), Dif
     }
 }
 
-fn event(input: &[u8], turn: Turn) -> Turn {
-    if stream::byte_at(input, turn.at) == 0 {
-        let reading = stream::short_at(input, stream::after(turn.at, 1));
-        Turn {
-            at: stream::after(turn.at, 3),
-            filter: filter::push(turn.filter, reading),
+fn after_event(input: &[u8], turn: Turn) -> Turn {
+    match event_at(input, turn.at) {
+        Event::Push => {
+            let reading = stream::short_at(input, stream::after(turn.at, 1));
+            Turn {
+                at: stream::after(turn.at, 3),
+                filter: filter::push(turn.filter, reading),
+            }
         }
-    } else {
-        Turn {
+        Event::Reset => Turn {
             at: stream::after(turn.at, 1),
             filter: filter::new(),
-        }
+        },
     }
 }
 
@@ -42,7 +56,7 @@ pub fn filter(input: &[u8], expected: &mut Expected) -> Result<(), Differs> {
         if input.len() <= turn.at {
             break;
         }
-        turn = event(input, turn);
+        turn = after_event(input, turn);
         same_average(expected, filter::average(turn.filter))?;
     }
     Ok(())

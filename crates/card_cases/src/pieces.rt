@@ -7,6 +7,28 @@ use stream::{Differs, Expected};
 // An upper bound on the number of events of a case.
 const MOST_EVENTS: usize = 65536;
 
+// An event of a case. Its byte begins it.
+#[derive(Clone, Copy, Debug, PartialEq, Eq)]
+enum Event {
+    Take,
+    Finish,
+    Ask,
+    Look,
+    Set,
+}
+
+// The event that begins there, if its byte is an event's.
+fn event_at(input: &[u8], at: usize) -> Option<Event> {
+    match stream::byte_at(input, at) {
+        0 => Some(Event::Take),
+        1 => Some(Event::Finish),
+        2 => Some(Event::Ask),
+        3 => Some(Event::Look),
+        4 => Some(Event::Set),
+        _ => None,
+    }
+}
+
 // Where the next event stands, the reading, and what its calls are given.
 #[derive(Clone, Copy)]
 struct Turn {
@@ -108,31 +130,31 @@ fn set(input: &[u8], turn: Turn) -> Turn {
     }
 }
 
-fn event(
+fn after_event(
     input: &[u8],
     expected: &mut Expected,
     turn: Turn,
     image: &mut Image,
     tables: &mut Tables,
 ) -> Result<Turn, Differs> {
-    match stream::byte_at(input, turn.at) {
-        0 => take(input, expected, turn, image, tables),
-        1 => finish(expected, turn),
-        2 => ask(expected, turn),
-        3 => look(expected, turn, image, tables),
-        4 => Ok(set(input, turn)),
-        _ => Err(Differs),
+    match event_at(input, turn.at) {
+        Some(Event::Take) => take(input, expected, turn, image, tables),
+        Some(Event::Finish) => finish(expected, turn),
+        Some(Event::Ask) => ask(expected, turn),
+        Some(Event::Look) => look(expected, turn, image, tables),
+        Some(Event::Set) => Ok(set(input, turn)),
+        None => Err(Differs),
     }
 }
 
 // The number of bytes that an event takes, or none if there is no such event.
 fn event_size(input: &[u8], at: usize) -> Option<usize> {
-    match stream::byte_at(input, at) {
-        0 => Some(stream::after(stream::size_at(input, stream::after(at, 1)), 3)),
-        1..=3 => Some(1),
-        4 => Some(19),
-        _ => None,
-    }
+    let size = match event_at(input, at)? {
+        Event::Take => stream::after(stream::size_at(input, stream::after(at, 1)), 3),
+        Event::Finish | Event::Ask | Event::Look => 1,
+        Event::Set => 19,
+    };
+    Some(size)
 }
 
 // Whether there is an event for each byte that begins one.
@@ -162,7 +184,7 @@ pub fn pieces(input: &[u8], expected: &mut Expected) -> Result<(), Differs> {
         if input.len() <= turn.at {
             break;
         }
-        turn = event(input, expected, turn, &mut image, &mut tables)?;
+        turn = after_event(input, expected, turn, &mut image, &mut tables)?;
     }
     Ok(())
 }

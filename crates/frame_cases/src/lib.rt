@@ -4,7 +4,7 @@
 
 mod given;
 
-use calculations::{FilteredInput, Input};
+use calculations::FilteredInput;
 use calibration::Calibration;
 use frames::Frame;
 use offsets::Offset;
@@ -23,63 +23,9 @@ struct Tables<'a> {
     k_ta: &'a [f32],
 }
 
-fn plain_call(
-    pass: Pass,
-    record: Calibration,
-    input: Input,
-    tables: Tables,
-    pixels: &[u8],
-    mask: &[u8],
-    destination: &mut [u32],
-) -> Result<Frame, Refusal> {
-    let Tables {
-        offsets0,
-        offsets1,
-        alpha,
-        k_v,
-        k_ta,
-    } = tables;
-    match pass {
-        Pass::Infrared => calculations::raw_pixels_to_ir_data(
-            record,
-            input,
-            offsets0,
-            offsets1,
-            k_v,
-            k_ta,
-            pixels,
-            mask,
-            destination,
-        ),
-        Pass::One => calculations::raw_pixels_to_temperatures(
-            record,
-            input,
-            offsets0,
-            offsets1,
-            alpha,
-            k_v,
-            k_ta,
-            pixels,
-            mask,
-            destination,
-        ),
-        Pass::Second => calculations::raw_pixels_to_ranged_temperatures(
-            record,
-            input,
-            offsets0,
-            offsets1,
-            alpha,
-            k_v,
-            k_ta,
-            pixels,
-            mask,
-            destination,
-        ),
-    }
-}
-
-fn filtered_call(
-    pass: Pass,
+// The six calls differ in name and arguments.
+fn pixels_call(
+    call: RawCall,
     record: Calibration,
     filtered: FilteredInput,
     tables: Tables,
@@ -94,8 +40,43 @@ fn filtered_call(
         k_v,
         k_ta,
     } = tables;
-    match pass {
-        Pass::Infrared => calculations::filtered_pixels_to_ir_data(
+    match call {
+        RawCall::Plain(Pass::Infrared) => calculations::raw_pixels_to_ir_data(
+            record,
+            filtered.input,
+            offsets0,
+            offsets1,
+            k_v,
+            k_ta,
+            pixels,
+            mask,
+            destination,
+        ),
+        RawCall::Plain(Pass::One) => calculations::raw_pixels_to_temperatures(
+            record,
+            filtered.input,
+            offsets0,
+            offsets1,
+            alpha,
+            k_v,
+            k_ta,
+            pixels,
+            mask,
+            destination,
+        ),
+        RawCall::Plain(Pass::Second) => calculations::raw_pixels_to_ranged_temperatures(
+            record,
+            filtered.input,
+            offsets0,
+            offsets1,
+            alpha,
+            k_v,
+            k_ta,
+            pixels,
+            mask,
+            destination,
+        ),
+        RawCall::Filtered(Pass::Infrared) => calculations::filtered_pixels_to_ir_data(
             record,
             filtered,
             offsets0,
@@ -106,7 +87,7 @@ fn filtered_call(
             mask,
             destination,
         ),
-        Pass::One => calculations::filtered_pixels_to_temperatures(
+        RawCall::Filtered(Pass::One) => calculations::filtered_pixels_to_temperatures(
             record,
             filtered,
             offsets0,
@@ -118,7 +99,7 @@ fn filtered_call(
             mask,
             destination,
         ),
-        Pass::Second => calculations::filtered_pixels_to_ranged_temperatures(
+        RawCall::Filtered(Pass::Second) => calculations::filtered_pixels_to_ranged_temperatures(
             record,
             filtered,
             offsets0,
@@ -162,20 +143,7 @@ fn on_tables(
     let filtered = given::filtered(frame, input);
     let pixels = stream::bytes(frame, 52, stream::size_at(frame, 46));
     let mask = given::mask(frame);
-    match call {
-        RawCall::Plain(pass) => plain_call(
-            pass,
-            record,
-            filtered.input,
-            tables,
-            pixels,
-            mask,
-            destination,
-        ),
-        RawCall::Filtered(pass) => {
-            filtered_call(pass, record, filtered, tables, pixels, mask, destination)
-        }
-    }
+    pixels_call(call, record, filtered, tables, pixels, mask, destination)
 }
 
 fn from_pixels(
@@ -220,6 +188,7 @@ fn from_infrared(
 
 // ---- The shelf: a camera, followed by a frame
 
+// The size alone differs from cases640's. A shared function that is given the size would be no plainer: it would be stream's own.
 const CAMERA_BYTES: usize = 4160;
 
 pub fn camera_mut(shelf: &mut [u8]) -> &mut [u8] {

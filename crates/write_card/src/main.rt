@@ -63,7 +63,7 @@ impl fmt::Display for Stop {
     }
 }
 
-// The number of entries filled in each list.
+// The number of entries filled in each list. The lists have fixed memory, so what is filled is counted beside them: a text may have fewer lines.
 #[derive(Clone, Copy, Debug, PartialEq, Eq)]
 struct Filled {
     data: usize,
@@ -101,26 +101,42 @@ struct Lines {
     filled: Filled,
 }
 
-// Reads the words of all lines. Otherwise returns the number of lines before the first that is not a word or is too many.
-fn read_lines(text: &[u8], data: &mut [u16], others: &mut [u16]) -> Result<Lines, usize>
-    ensures { MatchResult result (λ lines. lines.count ≤ 832) (λ before. before ≤ 832) }
+// The number, from 1 on, of the first line that is not a word or is too many.
+#[derive(Clone, Copy, Debug, PartialEq, Eq)]
+struct RefusedLine {
+    line: usize,
+}
+
+impl From<RefusedLine> for Stop {
+    fn from(refused: RefusedLine) -> Stop {
+        Stop::Line(refused.line as u64)
+    }
+}
+
+// Reads the words of all lines.
+fn read_lines(text: &[u8], data: &mut [u16], others: &mut [u16]) -> Result<Lines, RefusedLine>
+    ensures { MatchResult result (λ lines. lines.count ≤ 832) (λ refused. (1 ≤ refused.line) × (refused.line ≤ 833)) }
 {
     let mut start: usize = 0;
-    let mut count: usize = 0;
     let mut filled = Filled { data: 0, others: 0 };
-    while start < text.len() {
-        if count == WORDS {
-            return Err(count);
+    for count in 0..WORDS {
+        if text.len() <= start {
+            return Ok(Lines { count, filled });
         }
         let line = text::line_at(text, start);
         let Some(word) = line.word else {
-            return Err(count);
+            return Err(RefusedLine { line: count + 1 });
         };
         filled = put(filled, map::is_checked(count), word, data, others);
-        count += 1;
         start = line.next;
     }
-    Ok(Lines { count, filled })
+    if start < text.len() {
+        return Err(RefusedLine { line: WORDS + 1 });
+    }
+    Ok(Lines {
+        count: WORDS,
+        filled,
+    })
 }
 
 // Returns the first `count` entries of a list, or all of it if it is shorter.
@@ -150,10 +166,7 @@ fn write_lists(data: &[u16], others: &[u16]) -> Result<(), Stop> {
 fn write_text(text: &[u8], cut: bool) -> Result<(), Stop> {
     let mut data = [0u16; CHECKED_WORDS];
     let mut others = [0u16; UNCHECKED_WORDS];
-    let lines = match read_lines(text, &mut data, &mut others) {
-        Ok(lines) => lines,
-        Err(before) => return Err(Stop::Line(before as u64 + 1)),
-    };
+    let lines = read_lines(text, &mut data, &mut others)?;
     if cut {
         return Err(Stop::Line(lines.count as u64));
     }
