@@ -42,7 +42,7 @@ struct Tally {
 fn missed(guess: u64, settled: u64) -> u64
     ensures { result ≤ 1 }
 {
-    if guess == settled { 0 } else { 1 }
+    u64::from(guess != settled)
 }
 
 // Returns the bits of the n-th number of the sample.
