@@ -11,6 +11,7 @@ use stream::{Case640, Differs, Expected};
 
 // ---- The shelf: a camera, followed by a frame
 
+// The size alone differs from frame_cases's. A shared function that is given the size would be no plainer: it would be stream's own.
 const CAMERA_BYTES: usize = 9472;
 
 pub fn camera_mut(shelf: &mut [u8]) -> &mut [u8] {
