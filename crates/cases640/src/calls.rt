@@ -1,6 +1,6 @@
 // The MLX90640's calls on raw pixels, by the kind of a case.
 use frames::Frame;
-use frames640::FilteredInput;
+use frames640::{FilteredInput, Input};
 use record640::Calibration;
 use refusal::Refusal;
 use stream::{Pass, RawCall};
@@ -13,11 +13,11 @@ pub struct Tables<'a> {
     pub k_ta: &'a [f32],
 }
 
-// The six calls differ in name and arguments.
-pub fn call(
-    call: RawCall,
+// This and the next differ in the names of the calls and what they are given. One match over all six would be longer than a function should be.
+fn plain(
+    pass: Pass,
     record: Calibration,
-    filtered: FilteredInput,
+    input: Input,
     tables: Tables,
     pixels: &[u8],
     mask: &[u8],
@@ -28,64 +28,101 @@ pub fn call(
         alpha,
         k_ta,
     } = tables;
+    match pass {
+        Pass::Infrared => frames640::raw_pixels_to_ir_data(
+            record,
+            input,
+            offsets,
+            k_ta,
+            pixels,
+            mask,
+            destination,
+        ),
+        Pass::One => frames640::raw_pixels_to_temperatures(
+            record,
+            input,
+            offsets,
+            alpha,
+            k_ta,
+            pixels,
+            mask,
+            destination,
+        ),
+        Pass::Second => frames640::raw_pixels_to_ranged_temperatures(
+            record,
+            input,
+            offsets,
+            alpha,
+            k_ta,
+            pixels,
+            mask,
+            destination,
+        ),
+    }
+}
+
+fn filtered(
+    pass: Pass,
+    record: Calibration,
+    input: FilteredInput,
+    tables: Tables,
+    pixels: &[u8],
+    mask: &[u8],
+    destination: &mut [u32],
+) -> Result<Frame, Refusal> {
+    let Tables {
+        offsets,
+        alpha,
+        k_ta,
+    } = tables;
+    match pass {
+        Pass::Infrared => frames640::filtered_pixels_to_ir_data(
+            record,
+            input,
+            offsets,
+            k_ta,
+            pixels,
+            mask,
+            destination,
+        ),
+        Pass::One => frames640::filtered_pixels_to_temperatures(
+            record,
+            input,
+            offsets,
+            alpha,
+            k_ta,
+            pixels,
+            mask,
+            destination,
+        ),
+        Pass::Second => frames640::filtered_pixels_to_ranged_temperatures(
+            record,
+            input,
+            offsets,
+            alpha,
+            k_ta,
+            pixels,
+            mask,
+            destination,
+        ),
+    }
+}
+
+pub fn call(
+    call: RawCall,
+    record: Calibration,
+    input: FilteredInput,
+    tables: Tables,
+    pixels: &[u8],
+    mask: &[u8],
+    destination: &mut [u32],
+) -> Result<Frame, Refusal> {
     match call {
-        RawCall::Plain(Pass::Infrared) => frames640::raw_pixels_to_ir_data(
-            record,
-            filtered.input,
-            offsets,
-            k_ta,
-            pixels,
-            mask,
-            destination,
-        ),
-        RawCall::Plain(Pass::One) => frames640::raw_pixels_to_temperatures(
-            record,
-            filtered.input,
-            offsets,
-            alpha,
-            k_ta,
-            pixels,
-            mask,
-            destination,
-        ),
-        RawCall::Plain(Pass::Second) => frames640::raw_pixels_to_ranged_temperatures(
-            record,
-            filtered.input,
-            offsets,
-            alpha,
-            k_ta,
-            pixels,
-            mask,
-            destination,
-        ),
-        RawCall::Filtered(Pass::Infrared) => frames640::filtered_pixels_to_ir_data(
-            record,
-            filtered,
-            offsets,
-            k_ta,
-            pixels,
-            mask,
-            destination,
-        ),
-        RawCall::Filtered(Pass::One) => frames640::filtered_pixels_to_temperatures(
-            record,
-            filtered,
-            offsets,
-            alpha,
-            k_ta,
-            pixels,
-            mask,
-            destination,
-        ),
-        RawCall::Filtered(Pass::Second) => frames640::filtered_pixels_to_ranged_temperatures(
-            record,
-            filtered,
-            offsets,
-            alpha,
-            k_ta,
-            pixels,
-            mask,
-            destination,
-        ),
+        RawCall::Plain(pass) => {
+            plain(pass, record, input.input, tables, pixels, mask, destination)
+        }
+        RawCall::Filtered(pass) => {
+            filtered(pass, record, input, tables, pixels, mask, destination)
+        }
     }
 }

@@ -4,7 +4,7 @@
 
 mod given;
 
-use calculations::FilteredInput;
+use calculations::{FilteredInput, Input};
 use calibration::Calibration;
 use frames::Frame;
 use offsets::Offset;
@@ -23,9 +23,64 @@ struct Tables<'a> {
     k_ta: &'a [f32],
 }
 
-// The six calls differ in name and arguments.
-fn pixels_call(
-    call: RawCall,
+// This and the next differ in the names of the calls and what they are given. One match over all six would be longer than a function should be.
+fn plain_call(
+    pass: Pass,
+    record: Calibration,
+    input: Input,
+    tables: Tables,
+    pixels: &[u8],
+    mask: &[u8],
+    destination: &mut [u32],
+) -> Result<Frame, Refusal> {
+    let Tables {
+        offsets0,
+        offsets1,
+        alpha,
+        k_v,
+        k_ta,
+    } = tables;
+    match pass {
+        Pass::Infrared => calculations::raw_pixels_to_ir_data(
+            record,
+            input,
+            offsets0,
+            offsets1,
+            k_v,
+            k_ta,
+            pixels,
+            mask,
+            destination,
+        ),
+        Pass::One => calculations::raw_pixels_to_temperatures(
+            record,
+            input,
+            offsets0,
+            offsets1,
+            alpha,
+            k_v,
+            k_ta,
+            pixels,
+            mask,
+            destination,
+        ),
+        Pass::Second => calculations::raw_pixels_to_ranged_temperatures(
+            record,
+            input,
+            offsets0,
+            offsets1,
+            alpha,
+            k_v,
+            k_ta,
+            pixels,
+            mask,
+            destination,
+        ),
+    }
+}
+
+fn filtered_call(
+    pass: Pass,
     record: Calibration,
     filtered: FilteredInput,
     tables: Tables,
@@ -40,43 +95,8 @@ fn pixels_call(
         k_v,
         k_ta,
     } = tables;
-    match call {
-        RawCall::Plain(Pass::Infrared) => calculations::raw_pixels_to_ir_data(
-            record,
-            filtered.input,
-            offsets0,
-            offsets1,
-            k_v,
-            k_ta,
-            pixels,
-            mask,
-            destination,
-        ),
-        RawCall::Plain(Pass::One) => calculations::raw_pixels_to_temperatures(
-            record,
-            filtered.input,
-            offsets0,
-            offsets1,
-            alpha,
-            k_v,
-            k_ta,
-            pixels,
-            mask,
-            destination,
-        ),
-        RawCall::Plain(Pass::Second) => calculations::raw_pixels_to_ranged_temperatures(
-            record,
-            filtered.input,
-            offsets0,
-            offsets1,
-            alpha,
-            k_v,
-            k_ta,
-            pixels,
-            mask,
-            destination,
-        ),
-        RawCall::Filtered(Pass::Infrared) => calculations::filtered_pixels_to_ir_data(
+    match pass {
+        Pass::Infrared => calculations::filtered_pixels_to_ir_data(
             record,
             filtered,
             offsets0,
@@ -87,7 +107,7 @@ fn pixels_call(
             mask,
             destination,
         ),
-        RawCall::Filtered(Pass::One) => calculations::filtered_pixels_to_temperatures(
+        Pass::One => calculations::filtered_pixels_to_temperatures(
             record,
             filtered,
             offsets0,
@@ -99,7 +119,7 @@ fn pixels_call(
             mask,
             destination,
         ),
-        RawCall::Filtered(Pass::Second) => calculations::filtered_pixels_to_ranged_temperatures(
+        Pass::Second => calculations::filtered_pixels_to_ranged_temperatures(
             record,
             filtered,
             offsets0,
@@ -143,7 +163,20 @@ fn on_tables(
     let filtered = given::filtered(frame, input);
     let pixels = stream::bytes(frame, 52, stream::size_at(frame, 46));
     let mask = given::mask(frame);
-    pixels_call(call, record, filtered, tables, pixels, mask, destination)
+    match call {
+        RawCall::Plain(pass) => plain_call(
+            pass,
+            record,
+            filtered.input,
+            tables,
+            pixels,
+            mask,
+            destination,
+        ),
+        RawCall::Filtered(pass) => {
+            filtered_call(pass, record, filtered, tables, pixels, mask, destination)
+        }
+    }
 }
 
 fn from_pixels(

@@ -45,6 +45,12 @@ struct Settings {
     table: usize,
 }
 
+// The settings where the input ends within them: a range that no camera has, and tables without an entry.
+const CUT_OFF: Settings = Settings {
+    range: 256,
+    table: 0,
+};
+
 // A card in progress, whether anything of it has come, the number of its lines written, and its settings.
 #[derive(Clone, Copy)]
 struct Arrival {
@@ -186,7 +192,7 @@ fn step(
             reading,
             begun: true,
             lines,
-            settings: next_settings().unwrap_or(settings),
+            settings: next_settings().unwrap_or(CUT_OFF),
         }),
     }
 }
