@@ -104,9 +104,8 @@ every_x86_64=(--target x86_64-unknown-linux-gnu --cpu x86-64)
 
 # text CRATE PROCESSOR ROOM: proves a library and compiles it for x86_64 or aarch64, to ROOM/CRATE.PROCESSOR.s; its LLVM module before any optimization is then
 # ROOM/CRATE.PROCESSOR.ll, and the compiler's flags ROOM/PROCESSOR.flags. The text comes from rattle's own call of clang, with -S in place of -c and with the
-# words at `by_hand`: -fno-addrsig, since GNU as has no such directive; -ffp-contract=off, since a fused step would round once where the proofs say twice;
-# -max-store-memcpy, so that a copy of a record with its answer is written out and is no call of memcpy.
-by_hand='-ffp-contract=off -fno-addrsig -fno-verbose-asm -mllvm -max-store-memcpy=32'
+# words at `by_hand`: -fno-addrsig, since GNU as has no such directive; -ffp-contract=off, since a fused step would round once where the proofs say twice.
+by_hand='-ffp-contract=off -fno-addrsig -fno-verbose-asm'
 text() {
     local crate=$1 processor=$2 room=$3 tool kind=(--target aarch64-unknown-linux-gnu)
     [ "$processor" = aarch64 ] || kind=("${every_x86_64[@]}")

@@ -21,7 +21,7 @@ use Rattle.capi_reader.specs.Laws.{StateOut, state_out, calling_out, leaves_out,
 abbrev Plain : Reading → Type 0
 Plain r = is_none r.answer ≡ true → r.answer ≡ more
 
-count-only : (r : Reading) → r.answer ≡ more → reading_in r.count ≡ r
+pub count-only : (r : Reading) → r.answer ≡ more → reading_in r.count ≡ r
 count-only r e = ap (λ (a : Answer). record { count = r.count; answer = a }) (sym e)
 
 -- ---- one call

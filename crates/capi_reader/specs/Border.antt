@@ -34,6 +34,10 @@ reader_out r = record { count = r.count; ended = ended_of (is_none r.answer); an
 abbrev pub reading_in : ℕ → Reading
 reading_in count = record { count = count; answer = more }
 
+-- what a call gives while more bytes are wanted
+abbrev pub wanting_out : ℕ → Taken
+wanting_out count = record { reader = reader_out (reading_in count); answer = answer_out more }
+
 -- what a call leaves: the caller's array, the tables, and the result
 pub record After : Type 0 where
   pub image : List ℕ

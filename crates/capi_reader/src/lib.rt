@@ -4,7 +4,7 @@
 ghost use Rattle.std.specs.Prelude.{◌≡◌};
 ghost use Rattle.eeprom.specs.Load.{tables};
 ghost use Rattle.reader.specs.Calls.{start, finishes};
-ghost use Rattle.capi_reader.specs.Border.{ended_of, answer_out, reader_out, reading_in, after, takes_out, finishes_out};
+ghost use Rattle.capi_reader.specs.Border.{ended_of, answer_out, reader_out, reading_in, wanting_out, after, takes_out, finishes_out};
 
 use capi_cards::Load;
 use eeprom::Loaded;
@@ -31,15 +31,18 @@ pub struct Taken {
 }
 
 // Returns a reader's answer as C has it: while more bytes are wanted, number 0, no mended word and a record of zeros. A function, since a `From` between two
-// types of other crates is not this crate's to write.
+// types of other crates is not this crate's to write. It is inlined, since a call would have the whole answer copied, three times for each piece.
+#[inline(always)]
 fn answer_out(answer: Answer) -> Load
     ensures { result ≡ answer_out answer }
 {
-    let loaded = answer.unwrap_or(Ok(Loaded {
-        calibration: calibration::no_calibration(),
-        mending: card::no_mending(),
-    }));
-    loaded.into()
+    match answer {
+        Some(loaded) => loaded.into(),
+        None => Load::from(Ok(Loaded {
+            calibration: calibration::no_calibration(),
+            mending: card::no_mending(),
+        })),
+    }
 }
 
 // Returns the flag `ended`: 0 if more bytes are wanted.
@@ -70,6 +73,17 @@ fn reading_at(count: usize) -> Reading
     Reading {
         count,
         answer: None,
+    }
+}
+
+// Returns what a call gives while more bytes are wanted. A reading in small pieces ends most of its calls here, so it is made of zeros, with no answer to
+// convert.
+fn wanting(kept: usize) -> Taken
+    ensures { result ≡ wanting_out kept }
+{
+    Taken {
+        reader: reading_at(kept).into(),
+        answer: answer_out(None),
     }
 }
 
@@ -114,6 +128,9 @@ pub extern "C" fn loamchalice_reader_take(
         );
         let next = taken.reading;
         let said = taken.answer;
+        if next.answer.is_none() && said.is_none() {
+            return wanting(next.count);
+        }
         return Taken {
             reader: next.into(),
             answer: answer_out(said),
