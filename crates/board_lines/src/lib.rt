@@ -39,5 +39,6 @@ pub fn load_line(loaded: Result<Loaded, Refusal>) -> fmt::Result {
 }
 
 pub fn end_line(lines: u64) -> fmt::Result {
-    writeln!(Output, "end\t{lines}")
+    Output.write_str("end")?;
+    writeln!(Output, "\t{lines}")
 }

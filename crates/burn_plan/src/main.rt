@@ -19,21 +19,20 @@ const STEPS: u64 = 1628;
 
 // Writes the line of a step: the word, and its new value.
 fn step_line(step: Step) -> fmt::Result {
-    writeln!(Output, "step\t{}\t{}", step.word, step.value)
+    Output.write_str("step")?;
+    writeln!(Output, "\t{}\t{}", step.word, step.value)
 }
 
 // Writes the line of a refusal: its number, place and value.
 fn refused_line(refusal: Refusal) -> fmt::Result {
     let told = refusal.told();
-    writeln!(
-        Output,
-        "refused\t{}\t{}\t{}",
-        told.number, told.place, told.value
-    )
+    Output.write_str("refused")?;
+    writeln!(Output, "\t{}\t{}\t{}", told.number, told.place, told.value)
 }
 
 fn end_line(steps: u64) -> fmt::Result {
-    writeln!(Output, "end\t{steps}")
+    Output.write_str("end")?;
+    writeln!(Output, "\t{steps}")
 }
 
 // The number of steps written, and the refusal that stopped them, if any.
@@ -98,10 +97,8 @@ fn loads(image: &[u8]) -> Verdict {
 fn warn(wanted: &[u8]) {
     if let Err(refusal) = loads(wanted) {
         let told = refusal.told();
-        console::say(format_args!(
-            "warning: the wanted card does not load: {} {} {}",
-            told.number, told.place, told.value
-        ));
+        console::say("warning: the wanted card does not load:");
+        console::say(format_args!(" {} {} {}\n", told.number, told.place, told.value));
     }
 }
 

@@ -10,9 +10,9 @@ use std::io::{Read, Stdin};
 // The file descriptors of the three standard streams.
 pub const STDIN: i32 = 0;
 
-const STDOUT: i32 = 1;
+pub const STDOUT: i32 = 1;
 
-const STDERR: i32 = 2;
+pub const STDERR: i32 = 2;
 
 fn write_to(stream: i32, text: &[u8]) -> fmt::Result {
     if io::write_all(stream, text) {
@@ -32,13 +32,25 @@ impl Write for Output {
     }
 }
 
-// Standard error, without a buffer.
+// Standard output, without a buffer, for a program that says nothing of failed writes: the output lacks what could not be written, and the rest is written.
+#[derive(Clone, Copy)]
+pub struct Report;
+
+impl Write for Report {
+    fn write_str(&mut self, text: &str) -> fmt::Result {
+        let _ = write_to(STDOUT, text.as_bytes());
+        Ok(())
+    }
+}
+
+// Standard error, without a buffer. That a write failed could be told nowhere, so the rest is written.
 #[derive(Clone, Copy)]
 pub struct Errors;
 
 impl Write for Errors {
     fn write_str(&mut self, text: &str) -> fmt::Result {
-        write_to(STDERR, text.as_bytes())
+        let _ = write_to(STDERR, text.as_bytes());
+        Ok(())
     }
 }
 
@@ -47,9 +59,9 @@ pub fn put(bytes: &[u8]) -> fmt::Result {
     write_to(STDOUT, bytes)
 }
 
-// Writes a line to standard error. That this failed could be told nowhere.
-pub fn say<D: fmt::Display + Drop>(line: D) {
-    let _ = Errors.writeln(line);
+// Writes text to standard error.
+pub fn say<D: fmt::Display + Drop>(text: D) {
+    let _ = write!(Errors, "{text}");
 }
 
 // Why a program ends without success.
@@ -77,16 +89,19 @@ impl From<fmt::Error> for Failure {
     }
 }
 
+// Its line. Here and in the programs' other lines each piece of text, blank and number is a write of its own: where there is room for part of a line alone, the
+// pieces decide what comes out.
 impl fmt::Display for Failure {
     fn fmt<W: fmt::Write>(&self, f: &mut fmt::Formatter<W>) -> fmt::Result {
         match self {
             Failure::Refused(refusal) => {
                 let told = refusal.told();
-                write!(f, "refused {} {} {}", told.number, told.place, told.value)
+                f.write_str("refused")?;
+                writeln!(f, " {} {} {}", told.number, told.place, told.value)
             }
-            Failure::Reading => f.write_str("failed: reading"),
-            Failure::Writing => f.write_str("failed: writing"),
-            Failure::Longer => f.write_str("failed: more than 65,536 bytes"),
+            Failure::Reading => f.write_str("failed: reading\n"),
+            Failure::Writing => f.write_str("failed: writing\n"),
+            Failure::Longer => f.write_str("failed: more than 65,536 bytes\n"),
         }
     }
 }

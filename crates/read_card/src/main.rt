@@ -11,6 +11,15 @@ use std::fmt;
 use std::fmt::Write;
 use std::io::Stdin;
 
+// Writes the line of an unchecked word, with all four digits at once.
+fn unchecked_line(bits: u16, word: usize) -> fmt::Result {
+    let mut digits = [0u8; 16];
+    let n = io::hex(u64::from(bits), 4, &mut digits);
+    Output.write_str("0x")?;
+    console::put(&digits[..n])?;
+    writeln!(Output, "\t{word}")
+}
+
 // Writes the line of each word, from the next entry of its list.
 fn word_lines(data: &[u16], others: &[u16]) -> fmt::Result {
     let mut data = data.iter();
@@ -21,7 +30,7 @@ fn word_lines(data: &[u16], others: &[u16]) -> fmt::Result {
                 writeln!(Output, "{data}\t{word}")?;
             }
         } else if let Some(bits) = others.next() {
-            writeln!(Output, "0x{bits:04x}\t{word}")?;
+            unchecked_line(*bits, word)?;
         }
     }
     Ok(())

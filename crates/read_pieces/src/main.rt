@@ -120,7 +120,8 @@ fn take_next(image: &mut Image, reading: Reading, room: &mut [u8], settings: Set
 }
 
 fn kept_line(reading: Reading) -> fmt::Result {
-    write!(Output, "kept\t{}", reading.count)?;
+    Output.write_str("kept")?;
+    write!(Output, "\t{}", reading.count)?;
     if let Some(loaded) = reading.answer {
         board_lines::answer(loaded)?;
     }

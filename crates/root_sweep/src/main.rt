@@ -6,9 +6,8 @@
 
 ghost use Rattle.std.specs.Prelude.{◌<◌, ◌≤◌};
 
-use console::Output;
+use console::Report;
 use roots::SIDE;
-use std::fmt;
 use std::fmt::Write;
 
 // The bits of 1.
@@ -115,17 +114,17 @@ fn sweep_side_by_side() -> u64 {
     open
 }
 
-fn write_lines() -> fmt::Result {
-    let tally = sweep();
-    writeln!(Output, "patterns\t{}", tally.patterns)?;
-    writeln!(Output, "first\t{}", tally.first)?;
-    writeln!(Output, "second\t{}", tally.second)?;
-    writeln!(Output, "most steps\t{}", tally.steps)?;
-    writeln!(Output, "side by side\t{TO_SIXTEEN}")?;
-    writeln!(Output, "left open\t{}", sweep_side_by_side())
+// Writes a line. One that cannot be written is missing in the output, which shows it.
+fn line(name: &str, number: u64) {
+    let _ = writeln!(Report, "{name}\t{number}");
 }
 
 fn main() {
-    // Lines that cannot be written are missing in the output, which shows it.
-    let _ = write_lines();
+    let tally = sweep();
+    line("patterns", tally.patterns);
+    line("first", tally.first);
+    line("second", tally.second);
+    line("most steps", tally.steps);
+    line("side by side", TO_SIXTEEN);
+    line("left open", sweep_side_by_side());
 }

@@ -33,9 +33,8 @@ impl From<UnknownKind> for Cut {
     }
 }
 
-// Reads name, input and answer, which are no longer than `case`.
-fn read_rest(head: Head, case: &mut [u8]) -> Result<(), Cut> {
-    let length = stream::after(head.name, stream::after(head.input, head.answer));
+// Reads name, input and answer, of this length together, which are no longer than `case`.
+fn read_rest(length: usize, case: &mut [u8]) -> Result<(), Cut> {
     if io::read_full(console::STDIN, stream::first_mut(case, length)) == length {
         Ok(())
     } else {
@@ -57,15 +56,18 @@ fn read_case(case: &mut [u8]) -> Result<Option<Head>, Cut> {
     if number == END {
         return Ok(None);
     }
-    let head = Head {
+    let name = stream::size_at(&block, 2);
+    let input = stream::word_at(&block, 4) as usize;
+    let answer = stream::word_at(&block, 8) as usize;
+    // A case of an unknown kind is read whole too.
+    read_rest(stream::after(name, stream::after(input, answer)), case)?;
+    Ok(Some(Head {
         number,
         kind: Kind::try_from(number)?,
-        name: stream::size_at(&block, 2),
-        input: stream::word_at(&block, 4) as usize,
-        answer: stream::word_at(&block, 8) as usize,
-    };
-    read_rest(head, case)?;
-    Ok(Some(head))
+        name,
+        input,
+        answer,
+    }))
 }
 
 // The shelf holds the camera and the frame that the following cases use. Its first bytes, this many, are for the MLX90641, the rest for the MLX90640.
@@ -163,6 +165,5 @@ pub fn run() {
     let mut tallies = [Tally { cases: 0, agree: 0 }; 64];
     let mut name = io::buffer();
     let first = run_cases(&mut tallies, &mut name);
-    // Lines that cannot be written are missing in the output, which shows it.
     let _ = lines::write(&tallies, first, &name);
 }

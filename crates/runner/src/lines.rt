@@ -1,5 +1,5 @@
-// The lines that the runner writes.
-use console::Output;
+// The lines that the runner writes. What cannot be written is missing in the output, which shows it.
+use console::Report;
 use std::fmt;
 use std::fmt::Write;
 use stream::Kind;
@@ -34,11 +34,44 @@ pub enum First {
     },
 }
 
+// Text of at most 32 bytes; what is longer is cut. It holds the name of a kind, of 29 bytes at most, which is written at once.
+#[derive(Clone, Copy)]
+struct Name {
+    bytes: [u8; 32],
+    length: usize,
+}
+
+impl Write for Name {
+    fn write_str(&mut self, text: &str) -> fmt::Result {
+        for byte in text.as_bytes() {
+            if let Some(place) = self.bytes.get_mut(self.length) {
+                *place = *byte;
+                self.length += 1;
+            }
+        }
+        Ok(())
+    }
+}
+
+// Writes the name of a kind.
+fn put_name(kind: Kind) -> fmt::Result {
+    let mut name = Name {
+        bytes: [0; 32],
+        length: 0,
+    };
+    write!(name, "{kind}")?;
+    let _ = console::put(stream::bytes(&name.bytes, 0, name.length));
+    Ok(())
+}
+
 // Writes the line of a kind, but for cameras and frames, which have no answer.
 fn kind_line(kind: Kind, tally: Tally) -> fmt::Result {
     match (kind, tally.cases) {
         (Kind::Shelved(_), _) | (_, 0) => Ok(()),
-        (_, cases) => writeln!(Output, "{kind}\t{cases}\tagree\t{}", tally.agree),
+        (_, cases) => {
+            put_name(kind)?;
+            writeln!(Report, "\t{cases}\tagree\t{}", tally.agree)
+        }
     }
 }
 
@@ -54,16 +87,19 @@ fn kind_lines(tallies: &[Tally; 64]) -> fmt::Result {
 // Writes the name of a kind that has answers to compare; cameras and frames have none.
 fn kind_name(kind: Kind) -> fmt::Result {
     match kind {
-        Kind::Shelved(_) => Output.write_str("unknown kind"),
-        _ => write!(Output, "{kind}"),
+        Kind::Shelved(_) => Report.write_str("unknown kind"),
+        _ => put_name(kind),
     }
 }
 
 fn first_line(first: Option<First>, name: &[u8]) -> fmt::Result {
-    Output.write_str("first disagreement\t")?;
+    Report.write_str("first disagreement\t")?;
     match first {
-        None => writeln!(Output, "none"),
-        Some(First::Cut { number }) => writeln!(Output, "{number}\tstream"),
+        None => writeln!(Report, "none"),
+        Some(First::Cut { number }) => {
+            write!(Report, "{number}\tstream")?;
+            Report.write_str("\n")
+        }
         Some(
             First::Case {
                 number,
@@ -72,11 +108,11 @@ fn first_line(first: Option<First>, name: &[u8]) -> fmt::Result {
                 agreed,
             },
         ) => {
-            write!(Output, "{number}\t")?;
+            write!(Report, "{number}\t")?;
             kind_name(kind)?;
-            Output.write_str("\t")?;
-            console::put(stream::bytes(name, 0, length))?;
-            writeln!(Output, "\tbyte {agreed}")
+            Report.write_str("\t")?;
+            let _ = console::put(stream::bytes(name, 0, length));
+            writeln!(Report, "\tbyte {agreed}")
         }
     }
 }

@@ -31,19 +31,27 @@ impl From<Counts> for Outcome {
 impl fmt::Display for Outcome {
     fn fmt<W: fmt::Write>(&self, f: &mut fmt::Formatter<W>) -> fmt::Result {
         match self {
-            Outcome::Clean => f.write_str("clean"),
-            Outcome::Mended(mended) => write!(f, "mended {mended}"),
+            Outcome::Clean => f.write_str("clean")?,
+            Outcome::Mended(mended) => {
+                f.write_str("mended")?;
+                write!(f, " {mended}")?
+            }
             Outcome::Damaged { damaged, mended } => {
-                write!(f, "damaged {damaged}, mended {mended}")
+                f.write_str("damaged")?;
+                write!(f, " {damaged}")?;
+                f.write_str(", mended")?;
+                write!(f, " {mended}")?
             }
         }
+        f.write_str("\n")
     }
 }
 
-// Writes a line for each of the first `count` words of a list.
+// Writes a line for each of the first `count` words of a list; `what` is the line's end.
 fn word_lines(list: &[u16], count: usize, what: &str) {
     for word in list.iter().take(count) {
-        console::say(format_args!("word {word} {what}"));
+        console::say("word");
+        console::say(format_args!(" {word}{what}"));
     }
 }
 
@@ -52,8 +60,8 @@ fn scrub_card(card: &mut [u8]) -> Result<(), Failure> {
     let mut damaged = [0u16; CHECKED_WORDS];
     let counts = scrub::scrub(card, &mut changed, &mut damaged)?;
     console::put(card)?;
-    word_lines(&changed, counts.changed, "mended");
-    word_lines(&damaged, counts.damaged, "damaged");
+    word_lines(&changed, counts.changed, " mended\n");
+    word_lines(&damaged, counts.damaged, " damaged\n");
     console::say(Outcome::from(counts));
     Ok(())
 }

@@ -54,9 +54,15 @@ impl From<Refusal> for Stop {
 impl fmt::Display for Stop {
     fn fmt<W: fmt::Write>(&self, f: &mut fmt::Formatter<W>) -> fmt::Result {
         match self {
-            Stop::Line(line) => write!(f, "refused line {line}"),
+            Stop::Line(line) => {
+                f.write_str("refused line")?;
+                writeln!(f, " {line}")
+            }
             Stop::Data { line, data } => {
-                write!(f, "refused line {line}: data {data} is above 2047")
+                f.write_str("refused line")?;
+                write!(f, " {line}")?;
+                f.write_str(": data")?;
+                write!(f, " {data} is above 2047\n")
             }
             Stop::Failed(failure) => write!(f, "{failure}"),
         }
